@@ -10,6 +10,7 @@ pub record Marks : Type 0 where
   pub faulty : Bool
   pub stopped : Bool
 
+-- no error line, and no stop
 abbrev pub unmarked : Marks
 unmarked = record { faulty = false; stopped = false }
 

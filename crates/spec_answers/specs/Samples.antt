@@ -15,9 +15,11 @@ use Rattle.spec_answers.specs.Lines.{or_true, lines_text}
 use Rattle.spec_answers.specs.Rows.{Rows, no_rows}
 use Rattle.spec_answers.specs.Answer.{answer_lines}
 
+-- a whole number times a variable
 abbrev pub times : ℤ → ℕ → Monomial
 times z v = record { variable = v; factor = int_ℚ z }
 
+-- a variable with a name
 abbrev pub named : Text → ℕ → VariableName
 named f v = record { name = f; number = v }
 

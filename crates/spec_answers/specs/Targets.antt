@@ -16,9 +16,11 @@ asleep_term (Frozen x g) = compound2 "freeze" x g
 abbrev pub query_variables : List VariableName → List VariableName
 query_variables names = filter (λ n. not (is_hidden n.name)) names
 
+-- the query variables that are bound
 abbrev pub bound_queries : List VariableName → State → List VariableName
 bound_queries names st = filter (λ n. is_bound st.bindings n.number) (query_variables names)
 
+-- the query variables that are not bound
 abbrev pub free_queries : List VariableName → State → List VariableName
 free_queries names st = filter (λ n. not (is_bound st.bindings n.number)) (query_variables names)
 

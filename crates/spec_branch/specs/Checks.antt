@@ -27,9 +27,11 @@ abbrev mutual
   expressions_error (one t) = expression_error t
   expressions_error (more t ts) = or_error (expression_error t) (expressions_error ts)
 
+-- the name of a conjunction
 abbrev pub is_conjunction : Text → Bool
 is_conjunction f = bytes_eq f (codes ",")
 
+-- the name of a disjunction
 abbrev pub is_disjunction : Text → Bool
 is_disjunction f = bytes_eq f (codes ";")
 

@@ -4,12 +4,15 @@ use Rattle.spec_numbers.specs.Rational.{ℚ, int_ℚ, ratio}
 use Rattle.spec_terms.specs.Term.{Var, Number}
 use Rattle.spec_syntax.specs.Trees.{Tree}
 
+-- the variable of number 0
 abbrev pub X : Tree
 X = Var 0
 
+-- the variable of number 1
 abbrev pub Y : Tree
 Y = Var 1
 
+-- the variable of number 2
 abbrev pub Z : Tree
 Z = Var 2
 

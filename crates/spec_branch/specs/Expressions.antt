@@ -54,6 +54,7 @@ abbrev pub on_numbers : (ℚ → ℚ → ℚ) → Option ℚ → Option ℚ → 
 on_numbers h (Some p) (Some q) = Some (constant_form (h p q))
 on_numbers h p q = None
 
+-- the form of an operation of one argument, where that is linear
 abbrev pub unary_form : UnaryName → Linear → Option Linear
 unary_form Same f = Some f
 unary_form Opposite f = Some (negated_form f)
@@ -95,6 +96,7 @@ power_form f base None = None
 power_form f None (Some n) = power_of_form f n
 power_form f (Some q) (Some n) = Some (constant_form (power q n))
 
+-- the form of an operation of two arguments, where that is linear
 abbrev pub binary_form : BinaryName → Linear → Linear → Option Linear
 binary_form Plus f g = Some (sum_form f g)
 binary_form Minus f g = Some (difference_form f g)
@@ -114,6 +116,7 @@ abbrev pub unary_of : Option UnaryName → Option Linear → Option Linear
 unary_of (Some n) (Some f) = unary_form n f
 unary_of n f = None
 
+-- the same, where the operation is known and both arguments are linear
 abbrev pub binary_of : Option BinaryName → Option Linear → Option Linear → Option Linear
 binary_of (Some n) (Some f) (Some g) = binary_form n f g
 binary_of n f g = None

@@ -16,6 +16,7 @@ use Rattle.spec_branch.specs.Closure.{IsClosure}
 
 -- ---- bindings
 
+-- the term is this variable
 abbrev pub is_the_variable : ℕ → Tree → Bool
 is_the_variable v (Var w) = w == v
 is_the_variable v t = false
@@ -65,6 +66,7 @@ numeric_after st u s told v =
 
 -- ---- fixed values
 
+-- the value, or the variable where it has none
 abbrev pub value_or_variable : Option ℚ → ℕ → Tree
 value_or_variable None v = Var v
 value_or_variable (Some q) v = Number q
@@ -89,6 +91,7 @@ frozen_state t g = Wakes g
 abbrev pub state_of : Subst Text → Asleep → SleeperState
 state_of s (Frozen x g) = frozen_state (apply s x) g
 
+-- it goes on waiting
 abbrev pub still_sleeps : SleeperState → Bool
 still_sleeps Sleeps = true
 still_sleeps x = false
@@ -98,6 +101,7 @@ abbrev pub woken_item : SleeperState → Option Item
 woken_item (Wakes g) = Some (Goal (compound1 "call" g) 0)
 woken_item x = None
 
+-- those that go on waiting under the bindings
 abbrev pub left_asleep : Subst Text → List Sleeper → List Sleeper
 left_asleep s ks = filter (λ k. still_sleeps (state_of s k.asleep)) ks
 

@@ -12,6 +12,7 @@ use Rattle.spec_branch.specs.Checks.{is_conjunction, is_disjunction}
 
 -- ---- the value of an expression
 
+-- the value of an operation of one argument
 abbrev pub value_of_unary : UnaryName → ℚ → ℚ
 value_of_unary Same p = p
 value_of_unary Opposite p = neg_ℚ p
@@ -26,6 +27,7 @@ abbrev pub value_of_power : ℚ → Option ℕ → Option ℚ
 value_of_power p None = None
 value_of_power p (Some n) = Some (power p n)
 
+-- the value of an operation of two arguments; none where it has no value
 abbrev pub value_of_binary : BinaryName → ℚ → ℚ → Option ℚ
 value_of_binary Plus p q = Some (p +ℚ q)
 value_of_binary Minus p q = Some (p -ℚ q)
@@ -40,6 +42,7 @@ abbrev pub unary_at : Option UnaryName → Option ℚ → Option ℚ
 unary_at (Some n) (Some p) = Some (value_of_unary n p)
 unary_at n p = None
 
+-- the same, where the operation is known and both arguments have values
 abbrev pub binary_at : Option BinaryName → Option ℚ → Option ℚ → Option ℚ
 binary_at (Some n) (Some p) (Some q) = value_of_binary n p q
 binary_at n p q = None

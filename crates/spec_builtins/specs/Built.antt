@@ -14,9 +14,11 @@ atom s = Name (codes s)
 abbrev pub compound1 : String → Tree → Tree
 compound1 s a = unary (codes s) a
 
+-- a compound of two arguments
 abbrev pub compound2 : String → Tree → Tree → Tree
 compound2 s a b = binary (codes s) a b
 
+-- a compound of three arguments
 abbrev pub compound3 : String → Tree → Tree → Tree → Tree
 compound3 s a b c = Compound (codes s) (more a (more b (one c)))
 
@@ -32,9 +34,11 @@ pub record Indicator : Type 0 where
   pub name : Text
   pub arity : ℕ
 
+-- a name with a number of arguments
 abbrev pub indicator : Text → ℕ → Indicator
 indicator f n = record { name = f; arity = n }
 
+-- the name and the number are the same
 abbrev pub same_indicator : Indicator → Indicator → Bool
 same_indicator i j = bytes_eq i.name j.name && (i.arity == j.arity)
 

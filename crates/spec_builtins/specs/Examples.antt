@@ -6,12 +6,15 @@ use Rattle.spec_terms.specs.Unifier.{Equation}
 use Rattle.spec_syntax.specs.Trees.{Tree}
 use Rattle.spec_builtins.specs.Alternatives.{Solutions, Offers, without_new}
 
+-- the variable of number 0
 abbrev pub X : Tree
 X = Var 0
 
+-- the variable of number 1
 abbrev pub Y : Tree
 Y = Var 1
 
+-- the variable of number 2
 abbrev pub Z : Tree
 Z = Var 2
 

@@ -7,14 +7,17 @@ use Rattle.spec_syntax.specs.Writing.{is_negative}
 use Rattle.spec_syntax.specs.Trees.{Tree}
 use Rattle.spec_builtins.specs.Built.{is_atom}
 
+-- a variable
 abbrev pub is_variable : Tree → Bool
 is_variable (Var v) = true
 is_variable t = false
 
+-- an atom
 abbrev pub is_name : Tree → Bool
 is_name (Name a) = true
 is_name t = false
 
+-- a number
 abbrev pub is_number : Tree → Bool
 is_number (Number q) = true
 is_number t = false
@@ -24,6 +27,7 @@ abbrev pub is_integer : Tree → Bool
 is_integer (Number q) = is_whole q
 is_integer t = false
 
+-- a compound
 abbrev pub is_compound : Tree → Bool
 is_compound (Compound f ts) = true
 is_compound t = false
@@ -41,6 +45,7 @@ abbrev pub is_below_zero : Tree → Bool
 is_below_zero (Number q) = is_negative q
 is_below_zero t = false
 
+-- the number, and 0 for a negative one
 abbrev pub natural_or_zero : ℤ → ℕ
 natural_or_zero (pos n) = n
 natural_or_zero (negsuc n) = 0
@@ -71,6 +76,7 @@ abbrev pub cell_parts : Text → Tree → Tree → Parts → Parts
 cell_parts f whole head rest =
     if bytes_eq f (codes ".") then record rest { elements = head ∷ rest.elements } else no_cell whole
 
+-- the elements of a list, and what stands at its end
 abbrev pub parts : Tree → Parts
 parts (Compound f (more head (one t))) = cell_parts f (Compound f (more head (one t))) head (parts t)
 parts t = no_cell t

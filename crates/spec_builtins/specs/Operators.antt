@@ -18,6 +18,7 @@ whole_of t = pos 0
 abbrev pub priority_of : Tree → Option ℕ
 priority_of p = in_range (whole_of p)
 
+-- the kind of operator that an atom names, as xfx
 abbrev pub kind_of : Tree → Option OpKind
 kind_of k = kind_named (name_text k)
 

@@ -26,15 +26,18 @@ size text = length (chars text)
 
 -- ---- two texts that make one
 
+-- a text in two pieces
 pub record Split : Type 0 where
   pub first : Text
   pub last : Text
 
+-- the two pieces of this text, cut between characters
 pub record IsSplit (whole : Text) (s : Split) : Type 0 where
   pub first : IsUtf8 s.first
   pub last : IsUtf8 s.last
   pub joined : s.first ++ s.last ≡ whole
 
+-- the order in which a text is cut: the shorter first piece comes first
 abbrev pub HasShorterFirst : Split → Split → Type 0
 HasShorterFirst s t = size s.first < size t.first
 
@@ -44,11 +47,13 @@ split_pairs a b s = (a ≐ Name s.first) ∷ (b ≐ Name s.last) ∷ []
 
 -- ---- a part of a text
 
+-- a part of a text, with what stands before and after it
 pub record Part : Type 0 where
   pub before : Text
   pub part : Text
   pub after : Text
 
+-- the three are this text together, cut between characters
 pub record IsPart (whole : Text) (p : Part) : Type 0 where
   pub before : IsUtf8 p.before
   pub part : IsUtf8 p.part

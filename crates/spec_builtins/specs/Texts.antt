@@ -44,6 +44,7 @@ abbrev pub is_code : Tree → Bool
 is_code (Number q) = is_whole q && not (is_negative q) && is_scalar (natural_or_zero q.numerator)
 is_code t = false
 
+-- the first number, or 0 where there is none
 abbrev pub first_or_zero : List ℕ → ℕ
 first_or_zero [] = 0
 first_or_zero (c ∷ cs) = c
@@ -55,6 +56,7 @@ code_of t = natural_of t
 
 -- ---- atom_length(A,N)
 
+-- atom_length(A, N): how many characters the atom has
 abbrev pub atom_length_row : Tree → Tree → Solutions
 atom_length_row a n =
     faults_if (is_variable a) instantiation (
@@ -69,6 +71,7 @@ atom_length_row a n =
 pub data ElementKind : Type 0 where
   Characters Codes : ElementKind
 
+-- a character as an atom of one, or as its code
 abbrev pub element_of : ElementKind → ℕ → Tree
 element_of Characters c = name_of (c ∷ [])
 element_of Codes c = natural c
@@ -91,6 +94,7 @@ abbrev pub from_elements : Tree → Option Tree → List Tree → Solutions
 from_elements a (Some e) ts = Faults e
 from_elements a None ts = one_way ((a ≐ name_of (map code_of ts)) ∷ [])
 
+-- atom_chars(A, L) and atom_codes(A, L): the atom, or what the list spells
 abbrev pub atom_list_row : ElementKind → Tree → Tree → Solutions
 atom_list_row k a l =
     if is_name a then one_way ((l ≐ list_tree (map (element_of k) (characters a))) ∷ []) else
@@ -100,6 +104,7 @@ atom_list_row k a l =
 
 -- ---- char_code(C,N)
 
+-- char_code(C, N): the character, or that of the code
 abbrev pub char_code_row : Tree → Tree → Solutions
 char_code_row c n =
     faults_if (is_variable c && is_variable n) instantiation (
@@ -157,6 +162,7 @@ matching ess = Offers (map without_new (filter (λ es. list_all may_match es) es
 abbrev pub split_at : Tree → Tree → List ℕ → ℕ → List (Equation Text)
 split_at a b cs n = (a ≐ name_of (take n cs)) ∷ (b ≐ name_of (drop n cs)) ∷ []
 
+-- atom_concat(A, B, C): the two joined, or each way to cut C in two
 abbrev pub atom_concat_row : Tree → Tree → Tree → Solutions
 atom_concat_row a b c =
     faults_if (is_other is_name a) (type_error "atom" a) (
@@ -178,6 +184,7 @@ parts_at b l r s cs =
     flat_map (λ before. map (part_at b l r s cs before) (counted_from 0 (length cs - before + 1)))
     (counted_from 0 (length cs + 1))
 
+-- sub_atom(A, B, L, R, S): each part S of A, with B characters before it, L in it and R behind it
 abbrev pub sub_atom_row : Tree → Tree → Tree → Tree → Tree → Solutions
 sub_atom_row a b l r s =
     faults_if (is_variable a) instantiation (

@@ -81,6 +81,7 @@ pub record Sinks : Type 0 where
   pub faults : ℕ
   pub now_faults : ℕ
 
+-- what a sink holds and its count of faults, before and now
 abbrev pub sinks : Option (List ℕ) → Option (List ℕ) → ℕ → ℕ → Sinks
 sinks held now faults now_faults = record { held = held; now = now; faults = faults; now_faults = now_faults }
 

@@ -21,6 +21,7 @@ abbrev pub outside : Option Files → Option (List ℕ) → Option Outside
 outside (Some files) (Some input) = Some (record { files = files; input = input })
 outside files input = None
 
+-- the bytes of a file that is not too large
 abbrev pub within_size : Option (List ℕ) → Option (List ℕ)
 within_size None = None
 within_size (Some bytes) = if nat_le (length bytes) SIZE_LIMIT then Some bytes else None
@@ -33,6 +34,7 @@ given files name = within_size (files name)
 abbrev pub most_rows : ℕ
 most_rows = 4096
 
+-- what a query may spend by the words, and how many rows a projection may have
 abbrev pub budgets_of : Asked → Budgets
 budgets_of a = record { steps = a.steps; pivots = a.pivots; answers = a.answers; rows = most_rows }
 

@@ -27,6 +27,7 @@ abbrev pub lowers : ℕ → ℕ → List Tree
 lowers k zero = []
 lowers k (suc c) = lower k ∷ lowers (suc k) c
 
+-- the upper bounds of so many variables, from the k-th on
 abbrev pub uppers : ℕ → ℕ → List Tree
 uppers k zero = []
 uppers k (suc c) = upper k ∷ uppers (suc k) c

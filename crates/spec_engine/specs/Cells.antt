@@ -89,6 +89,7 @@ as_catch v (Caught ball c r k) = None
 as_catch v (Gathers t copies k) = None
 as_catch v (Matches t removes cs k) = None
 
+-- the catch that the newest choice is, if it is one
 abbrev pub top_catch : {W : Type 0} → Stack W → Option (Value W × ℕ)
 top_catch [] = None
 top_catch (c ∷ older) = as_catch c.0 c.1
@@ -108,6 +109,7 @@ IsGathering (Caught ball c r k) = ⊥
 IsGathering (Gathers t copies k) = ⊤
 IsGathering (Matches t removes cs k) = ⊥
 
+-- the newest choice is that of a findall
 abbrev pub TopGathers : {W : Type 0} → Stack W → Type 0
 TopGathers [] = ⊥
 TopGathers (c ∷ older) = IsGathering c.1

@@ -29,6 +29,7 @@ pub record Machine (W : Type 0) : Type 0 where
   pub now : Value W
   pub current : Option ℕ
 
+-- a machine of these parts
 abbrev pub engine : {W : Type 0} → Database → ℕ → Stack W → Value W → Option ℕ → Machine W
 engine db n choices now k = record { database = db; selected = n; choices = choices; now = now; current = k }
 

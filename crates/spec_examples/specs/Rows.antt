@@ -4,18 +4,23 @@ use Rattle.spec_numbers.specs.Texts.{Text}
 use Rattle.spec_transcript.specs.Causes.{Budgets}
 use Rattle.spec_transcript.specs.Session.{Marks, unmarked, Transcript}
 
+-- budgets that no sample spends
 abbrev pub some_goals : Budgets
 some_goals = record { steps = 100; pivots = 10; answers = 10; rows = 10 }
 
+-- so many goals
 abbrev pub goals : ℕ → Budgets
 goals n = record some_goals { steps = n }
 
+-- so many answers
 abbrev pub answers : ℕ → Budgets
 answers n = record some_goals { answers = n }
 
+-- an error line was written
 abbrev pub with_error : Marks
 with_error = record { faulty = true; stopped = false }
 
+-- a query stopped
 abbrev pub with_stop : Marks
 with_stop = record { faulty = false; stopped = true }
 
@@ -27,6 +32,7 @@ no_files name = None
 abbrev pub file : Text → Text → Option (List ℕ)
 file bytes name = Some bytes
 
+-- the name of one file
 abbrev pub one_name : List Text
 one_name = codes "p.pl" ∷ []
 
@@ -46,6 +52,7 @@ WritesStop input text = Transcript some_goals no_files input [] text with_stop
 abbrev pub WritesWithin : Budgets → Text → Text → Type 0
 WritesWithin budgets input text = Transcript budgets no_files input [] text unmarked
 
+-- under these budgets the input writes this text and stops
 abbrev pub StopsWithin : Budgets → Text → Text → Type 0
 StopsWithin budgets input text = Transcript budgets no_files input [] text with_stop
 
@@ -53,5 +60,6 @@ StopsWithin budgets input text = Transcript budgets no_files input [] text with_
 abbrev pub WritesAfter : Text → Text → Text → Type 0
 WritesAfter bytes input text = Transcript some_goals (file bytes) input one_name text unmarked
 
+-- behind this file the input writes this text and stops
 abbrev pub StopsAfter : Text → Text → Text → Type 0
 StopsAfter bytes input text = Transcript some_goals (file bytes) input one_name text with_stop

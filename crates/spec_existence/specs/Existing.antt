@@ -44,6 +44,7 @@ pub record IsReadyReader (shelf : Text → Option (List ℕ)) (r : Reader) : Typ
   pub within : r.at ≤ length r.bytes
   pub files : AreThere shelf r.files
 
+-- the session can go on: its files are there, and its search can
 abbrev pub IsReady : Budgets → (Text → Option (List ℕ)) → Session → Type 0
 IsReady budgets shelf (Opening db names) = AreThere shelf names
 IsReady budgets shelf (Reading db r) = IsReadyReader shelf r

@@ -24,10 +24,12 @@ IsSoundItem (CatchEnd k st c r) = IsSoundState st
 IsSoundItem (Collect k t) = ⊤
 IsSoundItem (Gathered t cs) = AllByRecursion CarriesNoRows cs
 
+-- each of the items is sound
 abbrev pub AreSoundItems : List Item → Type 0
 AreSoundItems [] = ⊤
 AreSoundItems (i ∷ is) = IsSoundItem i × AreSoundItems is
 
+-- a ball carries no rows
 abbrev pub IsSoundBall : Option Copied → Type 0
 IsSoundBall None = ⊤
 IsSoundBall (Some c) = CarriesNoRows c
@@ -37,11 +39,13 @@ abbrev pub IsSoundPhase : State → Phase → Type 0
 IsSoundPhase st Settled = Solvable st.linear
 IsSoundPhase st (Unsettled p) = (p.rows ≡ []) × IsSoundBall p.ball
 
+-- all parts of a branch are sound
 pub record IsSoundBranch (b : Branch) : Type 0 where
   pub items : AreSoundItems b.items
   pub state : IsSoundState b.state
   pub phase : IsSoundPhase b.state b.phase
 
+-- each of the branches is sound
 abbrev pub AreSound : List Branch → Type 0
 AreSound [] = ⊤
 AreSound (b ∷ bs) = IsSoundBranch b × AreSound bs

@@ -22,12 +22,15 @@ minus n = Number (neg_ℚ (int_ℚ (pos n)))
 abbrev pub not_changed : String → ℕ → Tree
 not_changed s n = permission_error "modify" "static_procedure" (indicator_term (indicator (codes s) n))
 
+-- the error of clauses that may not be read
 abbrev pub not_read : String → ℕ → Tree
 not_read s n = permission_error "access" "private_procedure" (indicator_term (indicator (codes s) n))
 
+-- the error of a predicate that is not there
 abbrev pub unknown : String → ℕ → Tree
 unknown s n = existence_error (indicator (codes s) n)
 
+-- the error of a function that is not there
 abbrev pub no_function : String → ℕ → Tree
 no_function s n = not_evaluable (indicator (codes s) n)
 

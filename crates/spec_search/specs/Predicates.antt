@@ -7,6 +7,7 @@ use Rattle.spec_builtins.specs.Texts.{ElementKind}
 use Rattle.spec_search.specs.Builtins.{Builtin, builtin_of}
 use Rattle.spec_search.specs.Builtins as builtin
 
+-- the built-in predicates on terms and texts, which give alternatives and change no database
 pub data Predicate : Type 0 where
   Order : Comparison → Predicate
   Test : TypeTest → Predicate

@@ -60,6 +60,7 @@ child items st work = record { items = items; state = st; phase = Unsettled work
 abbrev pub made : Place → List Branch → Made
 made p bs = record { children = bs; keeps = None; database = p.database; output = [] }
 
+-- these branches take the place of the first one
 abbrev pub makes : Place → List Branch → Reply
 makes p bs = Makes (made p bs)
 
@@ -83,6 +84,7 @@ changes p db = Makes (record (made p (onward p)) { database = db })
 abbrev pub outputs : Place → Text → Reply
 outputs p text = Makes (record (made p (onward p)) { output = text })
 
+-- these equations are to be settled
 abbrev pub with_equations : List (Equation Text) → Pending
 with_equations es = record no_work { equations = es }
 
@@ -99,6 +101,7 @@ unless_error (Some e) r = Raises e
 abbrev pub with_new : ℕ → State → State
 with_new n st = record st { fresh = st.fresh + n }
 
+-- the branch of an alternative: its new variables, and its equations
 abbrev pub alternative_child : Place → Alternative → Branch
 alternative_child p a = child p.rest (with_new a.new p.state) (with_equations a.equations)
 
@@ -116,6 +119,7 @@ suspended st a = record st {
   next_sleeper = suc st.next_sleeper;
 }
 
+-- the state with these goals suspended, in order
 abbrev pub all_suspended : State → List Asleep → State
 all_suspended st [] = st
 all_suspended st (a ∷ more) = all_suspended (suspended st a) more
@@ -132,10 +136,12 @@ placed_products n vs [] = []
 placed_products n vs (m ∷ s) =
     with_product (record { variable = place_from n vs m.variable; factor = m.factor }) (placed_products n vs s)
 
+-- a constraint of a copy, over variables that are numbered from n on
 abbrev pub placed_constraint : ℕ → List ℕ → Constraint → Constraint
 placed_constraint n vs c =
     record c { form = record { products = placed_products n vs c.form.products; constant = c.form.constant } }
 
+-- a suspended goal of a copy, over variables that are numbered from n on
 abbrev pub placed_asleep : ℕ → List ℕ → Asleep → Asleep
 placed_asleep n vs (Frozen x g) = Frozen (apply (numbered_from n vs) x) (apply (numbered_from n vs) g)
 

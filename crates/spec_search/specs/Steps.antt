@@ -30,6 +30,7 @@ pub data IsSelection (p : Place) (goal : Tree) : List Clause → List Clause →
 
 -- ---- questions to the linear constraints
 
+-- the constraint is not linear yet
 abbrev pub waits : {A : Type 0} → Lin A → Bool
 waits Waits = true
 waits r = false
@@ -50,6 +51,7 @@ IsBroken l (Is c) = Leaves l c
 IsBroken l Waits = ⊥
 IsBroken l False = ⊤
 
+-- the list entails each of the constraints
 abbrev pub AllEntailed : List Constraint → (ℕ → Option ℚ) → List Tree → Type 0
 AllEntailed l fixed [] = ⊤
 AllEntailed l fixed (m ∷ ms) = IsEntailed l (lin fixed m) × AllEntailed l fixed ms
@@ -66,6 +68,7 @@ HasNoExtent Least l f = IsUnbounded l (negated_form f)
 
 -- ---- steps
 
+-- what a selected goal comes to: a ball, or the branches in its place
 pub data Stepped : Type 0 where
   Ball : Copied → Stepped
   Children : Made → Stepped
@@ -74,6 +77,7 @@ pub data Stepped : Type 0 where
 abbrev pub ball_of : Tree → Tree → Stepped
 ball_of goal e = Ball (plain_copy (error_ball e (indicator_of goal)))
 
+-- these branches
 abbrev pub children : Place → List Branch → Stepped
 children p bs = Children (made p bs)
 

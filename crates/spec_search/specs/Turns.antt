@@ -24,6 +24,7 @@ pub data Event : Type 0 where
 
 -- ---- the search after a turn
 
+-- the search with these branches
 abbrev pub with_branches : List Branch → Search → Search
 with_branches bs s = record s { branches = bs }
 

@@ -7,6 +7,7 @@ abbrev pub item_weight : Item → ℕ
 item_weight (Goal t h) = 0
 item_weight i = 2
 
+-- how much there is to be done in all items
 abbrev pub items_weight : List Item → ℕ
 items_weight [] = 0
 items_weight (i ∷ is) = item_weight i + items_weight is

@@ -9,9 +9,11 @@ use Rattle.spec_text.specs.Readings.{Read, Clause, Ended, Syntax}
 abbrev pub tree_later : ℕ → Tree → Tree
 tree_later n t = apply (λ v. Var (n + v)) t
 
+-- the variable, numbered from n on
 abbrev pub name_later : ℕ → VariableName → VariableName
 name_later n v = record { name = v.name; number = n + v.number }
 
+-- the variables, numbered from n on
 abbrev pub variables_later : ℕ → Variables → Variables
 variables_later n variables = record { names = map (name_later n) variables.names; count = n + variables.count }
 
@@ -19,6 +21,7 @@ variables_later n variables = record { names = map (name_later n) variables.name
 abbrev pub variables_from : ℕ → Variables
 variables_from n = record { names = []; count = n }
 
+-- what was read, with its variables numbered from n on
 abbrev pub read_later : ℕ → Read → Read
 read_later n (Clause tree variables next) = Clause (tree_later n tree) (variables_later n variables) next
 read_later n Ended = Ended

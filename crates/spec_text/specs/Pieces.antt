@@ -9,6 +9,7 @@ use Rattle.spec_syntax.specs.Tokens.{Token, Variable, Numeral, Named, Functor, M
 use Rattle.spec_syntax.specs.Trees.{Tree}
 use Rattle.spec_syntax.specs.Writing.{is_negative, is_bare_right, is_bare_left, is_bare_argument, needs_quotes, is_spaced, infix_token, Place, Alone, InList, is_signed, cell_token}
 
+-- a piece of a written term: a token, and whether blanks stand round it
 pub record Piece : Type 0 where
   pub token : Token
   -- it has a blank on each side

@@ -11,6 +11,7 @@ use Rattle.spec_syntax.specs.Trees.{Tree}
 use Rattle.spec_syntax.specs.TextTokens.{Variables, no_variables, variables_after, seen}
 use Rattle.spec_syntax.specs.Grammar.{Parses, BeginsClause, IsRefused}
 
+-- what stands at a place of a text
 pub data Read : Type 0 where
   -- a clause: its tree, its variables, and the place behind its end token
   Clause : Tree → Variables → ℕ → Read

@@ -18,6 +18,7 @@ pub data Cause : Type 0 where
   Overflow : Pair → Cause
   Projection : ℕ → ℕ → ℕ → List Constraint → Cause
 
+-- the line of a stop
 abbrev pub stop_text : Cause → Text
 stop_text (Resolutions n) = codes "stop: resolutions\n"
 stop_text (Pivots n) = codes "stop: pivots\n"

@@ -26,6 +26,7 @@ abbrev pub power_operands : Option ℚ → Option ℕ → List Operands
 power_operands (Some q) (Some n) = power_products q n
 power_operands base exponent = []
 
+-- the operands of a power, where both sides are linear
 abbrev pub of_powers : Option Linear → Option Linear → List Operands
 of_powers (Some f) (Some g) = power_operands (number_of f) (exponent_of (number_of g))
 of_powers f g = []

@@ -29,6 +29,7 @@ abbrev pub unmarked : Source → Tree → Purpose
 unmarked File t = Fact t
 unmarked Input t = Query t
 
+-- what a term that was read is for: a directive, a query or a clause
 abbrev pub purpose : Source → Tree → Purpose
 purpose source (Compound f (one t)) =
     if bytes_eq f (codes ":-") then directive source t

@@ -8,6 +8,7 @@ use Rattle.spec_terms.specs.Term.{Var}
 use Rattle.spec_syntax.specs.Trees.{Tree}
 use Rattle.spec_builtins.specs.Built.{natural, compound2}
 
+-- the number 2
 abbrev pub two : ℚ
 two = int_ℚ (pos 2)
 

@@ -37,6 +37,7 @@ pub record Reader : Type 0 where
   pub later : List Asked
   pub files : List Text
 
+-- a reader before the first byte
 abbrev pub beginning : Source → List ℕ → List Text → Reader
 beginning source bytes files = record { source = source; bytes = bytes; at = 0; later = []; files = files }
 
