@@ -3,7 +3,7 @@ use Rattle.std.proofs.Common.{ℕ, zero, suc, ◌<◌, List, [], ◌∷◌, map,
 use Rattle.std.specs.Prelude.{All}
 use Rattle.std.proofs.lemmas.List.Elements.{All-map}
 use Rattle.std.proofs.lemmas.Option.{slice_get-get_or}
-use Rattle.cq_term.specs.Layout.{Contents, IsWhole, IsMarked, all_built, meant, terms_of, terms_at, contents_at}
+use Rattle.cq_term.specs.Layout.{Contents, IsWhole, IsMarked, all_built, meant, homes, bindings, terms_of, terms_at, contents_at}
 use Rattle.cq_term.specs.Meaning.{HeapTerm, at, blank}
 use Rattle.cq_term.specs.Names.{HasNamesBelow, HasNamesOfTerms}
 use Rattle.cq_term.specs.Rep.{AllBelow}
@@ -18,7 +18,7 @@ names_at n ts (i ∷ is) below all zero d lt = all i blank below.0
 names_at n ts (i ∷ is) below all (suc k) d lt = names_at n ts is below.1 all k d (omega arith)
 
 pub names_of_terms : (x : Contents) → IsWhole x → HasNamesOfTerms (terms_of x)
-names_of_terms x whole n all = names_at n (meant x) x.vars (homes_in (all_built x) x.vars x.bound x.order whole.heap) all
+names_of_terms x whole n all = names_at n (meant x) (homes x) (homes_in (all_built x) (homes x) (bindings x) whole.heap) all
 
 pub names_of_marks : (x : Contents) (marks : List Place) → IsMarked x marks → All HasNamesOfTerms (map (terms_at x) marks)
 names_of_marks x marks is = All-map HasNamesOfTerms (terms_at x) marks

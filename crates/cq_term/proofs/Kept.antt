@@ -1,15 +1,14 @@
 -- A heap stays one with a new cell and with a new binding.
-use Rattle.std.proofs.Common.{◌≡◌, ◌≢◌, ℕ, zero, suc, ◌+◌, ◌<◌, ◌≤◌, List, [], ◌∷◌, ◌++◌, length, Option, None, Some, refl, sym, ap, ◌∙◌, subst, inl, inr, ◌⊎◌, get_or, set, arith, length-append, Bool, true, false, cond, map, eq-eqb, length-set, add-one}
+use Rattle.std.proofs.Common.{◌≡◌, ◌≢◌, ℕ, zero, suc, ◌+◌, ◌<◌, ◌≤◌, List, [], ◌∷◌, ◌++◌, length, Option, None, Some, refl, sym, ap, ◌∙◌, subst, inl, inr, ◌⊎◌, get_or, arith, length-append, Bool, true, false, cond, map, eq-eqb, add-one}
 use Rattle.std.proofs.lemmas.List.{get_or_push, get_or-map, length-map, map-append}
 use Rattle.std.proofs.lemmas.Option.{slice_get_within, same_Some, none-some, MatchOption-at_none, MatchOption-at_some, slice_get_read, slice_get-get_or, slice_get-map}
 use Rattle.std.proofs.lemmas.List.{get_or_read, get_or_past}
 use Rattle.std.specs.Option.{option_map}
 use Rattle.std.proofs.lemmas.Bool.{cases_eq, cases_lt, eqb-true}
 use Rattle.std.specs.Prelude.{slice_get, MatchOption, ◌==◌, All}
-use Rattle.std.proofs.Common.{get_or-set_same, get_or-set_other}
 use Rattle.spec_terms.specs.Term.{Var, apply, single, Occurs, with_arguments}
 use Rattle.spec_terms.proofs.Substitution.{single_same, single_other, apply-single_absent, occurs_from}
-use Rattle.cq_term.specs.Meaning.{HeapTerm, at, blank, raw_cell, raws_from, after, meanings}
+use Rattle.cq_term.specs.Meaning.{Binding, HeapTerm, at, blank, raw_cell, raws_from, after, meanings}
 use Rattle.cq_term.specs.Rep.{IsHeap, IsFree, Head, Fits, AllBelow, target, left_after, Resolved}
 use Rattle.cq_term.specs.Shown.{view_of, arguments}
 use Rattle.cq_term.proofs.Arguments.{apply-with_arguments, occurs_with_arguments, arguments-with_arguments, view_of-with_arguments}
@@ -17,7 +16,6 @@ use Rattle.cq_term.specs.declared.view.View.{View}
 use Rattle.cq_term.specs.declared.view.View.TheVariants as view
 use Rattle.cq_term.specs.Built.{Built}
 use Rattle.cq_term.specs.Built as built
-use Rattle.cq_term.specs.declared.lists.Binding.{Binding}
 use Rattle.cq_term.proofs.Meanings.{raws_push, length-raws, after_push, length-meanings, at-append, map_at-append, map_at-map, after_more, subst-new, steps_left, left_at}
 use Rattle.spec_numbers.proofs.Places.{get_push, get_kept}
 
@@ -31,44 +29,69 @@ at_cases [] x (suc i) = inl refl
 at_cases (t ∷ ts) x zero = inl refl
 at_cases (t ∷ ts) x (suc i) = at_cases ts x i
 
--- a new variable isn't bound
-pub target-push : (bound : List (Option ℕ)) (n : ℕ) → target (bound ++ None ∷ []) n ≡ target bound n
-target-push [] zero = refl
-target-push [] (suc n) = refl
-target-push (b ∷ bound) zero = refl
-target-push (b ∷ bound) (suc n) = target-push bound n
+-- a variable that a binding is of, or of which there is none
+pub unbound_left : (order : List Binding) (v : ℕ) → target order v ≡ None → left_after order v ≡ 0
+unbound_left [] v e = refl
+unbound_left (b ∷ order) v e = go (b.variable == v) (unbound_left order v) e
+  where
+    go : (p : Bool) → (target order v ≡ None → left_after order v ≡ 0) → cond p (Some b.term) (target order v) ≡ None → cond p (suc (length order)) (left_after order v) ≡ 0
+    go true rest h = absurd (none-some b.term (sym h))
+    go false rest h = rest h
 
-pub target_past : (bound : List (Option ℕ)) (n : ℕ) → length bound ≤ n → target bound n ≡ None
-target_past [] n h = refl
-target_past (b ∷ bound) zero h = absurd (omega arith)
-target_past (b ∷ bound) (suc n) h = target_past bound n (omega arith)
+bound_left : (n : ℕ) (order : List Binding) (v u : ℕ) → ((k : ℕ) (b : Binding) → slice_get order k ≡ Some b → b.term < n) → target order v ≡ Some u → (u < n) × (0 < left_after order v)
+bound_left n [] v u live e = absurd (none-some u e)
+bound_left n (b ∷ order) v u live e = go (b.variable == v) (bound_left n order v u (λ k x q. live (suc k) x q)) e
+  where
+    go : (p : Bool) → (target order v ≡ Some u → (u < n) × (0 < left_after order v)) → cond p (Some b.term) (target order v) ≡ Some u → (u < n) × (0 < cond p (suc (length order)) (left_after order v))
+    go true rest h = (subst (λ (x : ℕ). x < n) (same_Some b.term u h) (live 0 b refl), omega arith)
+    go false rest h = rest h
 
-pub meanings_push : (cells : List Built) (vars : List ℕ) (bound : List (Option ℕ)) (order : List Binding) (c : Built) → IsHeap cells vars bound order → Fits (length cells) (suc (length bound)) c → ((n : ℕ) → c ≡ built.Var n → n ≡ length bound) →
+pub targets : {cells : List Built} {vars : List ℕ} {order : List Binding} → IsHeap cells vars order → (v u : ℕ) → target order v ≡ Some u → (u < length cells) × (0 < left_after order v)
+targets {cells = cells} {order = order} heap v u e = bound_left (length cells) order v u (λ k b q. (heap.bindings k b q).0) e
+
+target_fresh : (n : ℕ) (order : List Binding) → ((k : ℕ) (b : Binding) → slice_get order k ≡ Some b → b.variable < n) → target order n ≡ None
+target_fresh n [] there = refl
+target_fresh n (b ∷ order) there = go (b.variable == n) refl (target_fresh n order (λ k x q. there (suc k) x q))
+  where
+    go : (p : Bool) → (b.variable == n) ≡ p → target order n ≡ None → cond p (Some b.term) (target order n) ≡ None
+    go true e rest = absurd (omega (arith, eqb-true b.variable n e, there 0 b refl))
+    go false e rest = rest
+
+target_last : (order : List Binding) (b : Binding) → target order b.variable ≡ None → target (order ++ b ∷ []) b.variable ≡ Some b.term
+target_last [] b e = rw (eq-eqb b.variable b.variable refl) refl
+target_last (x ∷ order) b e = go (x.variable == b.variable) (target_last order b) e
+  where
+    go : (p : Bool) → (target order b.variable ≡ None → target (order ++ b ∷ []) b.variable ≡ Some b.term) → cond p (Some x.term) (target order b.variable) ≡ None → cond p (Some x.term) (target (order ++ b ∷ []) b.variable) ≡ Some b.term
+    go true rest h = absurd (none-some x.term (sym h))
+    go false rest h = rest h
+
+target_other : (order : List Binding) (b : Binding) (w : ℕ) → w ≢ b.variable → target (order ++ b ∷ []) w ≡ target order w
+target_other [] b w ne = go (b.variable == w) refl
+  where
+    go : (p : Bool) → (b.variable == w) ≡ p → cond p (Some b.term) None ≡ None
+    go true e = absurd (ne (sym (eqb-true b.variable w e)))
+    go false e = refl
+target_other (x ∷ order) b w ne = ap (λ (o : Option ℕ). cond (x.variable == w) (Some x.term) o) (target_other order b w ne)
+
+pub meanings_push : (cells : List Built) (vars : List ℕ) (order : List Binding) (c : Built) → IsHeap cells vars order → Fits (length cells) (suc (length vars)) c → ((n : ℕ) → c ≡ built.Var n → n ≡ length vars) →
     meanings (cells ++ c ∷ []) order ≡ meanings cells order ++ raw_cell (meanings cells order) c ∷ []
 unfolding meanings
-meanings_push cells vars bound order c heap fits new =
+meanings_push cells vars order c heap fits new =
     let l : length (raws_from [] cells) ≡ length cells = length-raws [] cells ∙ omega arith in
-    rw (raws_push [] cells c) (after_more order (raws_from [] cells) c (suc (length bound))
+    rw (raws_push [] cells c) (after_more order (raws_from [] cells) c (suc (length vars))
     (λ k b h. rw l (heap.bindings k b h).0)
     (rw l fits)
-    (λ k b n h e same. let p : n ≡ length bound = new n e in let q : b.variable < length bound = (heap.bindings k b h).1 in omega arith))
+    (λ k b n h e same. let p : n ≡ length vars = new n e in let q : b.variable < length vars = (heap.bindings k b h).1 in omega arith))
 
 head_var_more : (o : Option ℕ) (ts us : List HeapTerm) (n : ℕ) (t : HeapTerm) → ((u : ℕ) → o ≡ Some u → u < length ts) → MatchOption o (t ≡ Var n) (λ u. t ≡ at ts u) → MatchOption o (t ≡ Var n) (λ u. t ≡ at (ts ++ us) u)
 head_var_more None ts us n t h m = m
 head_var_more (Some u) ts us n t h m = m ∙ sym (at-append ts us u (h u refl))
 
-pub head_more : (ts us : List HeapTerm) (bound : List (Option ℕ)) (c : Built) (t : HeapTerm) (vars : ℕ) → ((v u : ℕ) → target bound v ≡ Some u → u < length ts) → Fits (length ts) vars c → Head ts bound c t → Head (ts ++ us) bound c t
-head_more ts us bound (built.Var n) t vars h f m = head_var_more (target bound n) ts us n t (h n) m
-head_more ts us bound (built.Number n) t vars h f m = m
-head_more ts us bound (built.Name n) t vars h f m = m
-head_more ts us bound (built.Compound g args) t vars h f m = m ∙ ap (with_arguments g) (sym (map_at-append ts us args (length ts) (omega arith) f.1))
-
--- the head of a cell is by what its variable is bound to
-pub head_bound : (ts : List HeapTerm) (bound other : List (Option ℕ)) (c : Built) (t : HeapTerm) → ((n : ℕ) → c ≡ built.Var n → target other n ≡ target bound n) → Head ts bound c t → Head ts other c t
-head_bound ts bound other (built.Var n) t e m = rw (e n refl) m
-head_bound ts bound other (built.Number n) t e m = m
-head_bound ts bound other (built.Name n) t e m = m
-head_bound ts bound other (built.Compound g args) t e m = m
+pub head_more : (ts us : List HeapTerm) (order : List Binding) (c : Built) (t : HeapTerm) (vars : ℕ) → ((v u : ℕ) → target order v ≡ Some u → u < length ts) → Fits (length ts) vars c → Head ts order c t → Head (ts ++ us) order c t
+head_more ts us order (built.Var n) t vars h f m = head_var_more (target order n) ts us n t (h n) m
+head_more ts us order (built.Number n) t vars h f m = m
+head_more ts us order (built.Name n) t vars h f m = m
+head_more ts us order (built.Compound g args) t vars h f m = m ∙ ap (with_arguments g) (sym (map_at-append ts us args (length ts) (omega arith) f.1))
 
 all_below : (i j : ℕ) (is : List ℕ) → i ≤ j → AllBelow i is → AllBelow j is
 all_below i j [] h a = tt
@@ -87,82 +110,80 @@ fits_below i j vars (built.Name n) h f = tt
 fits_below i j vars (built.Compound g args) h f = (f.0, all_below i j args h f.1)
 
 -- a variable stays free where cells are added
-free_with : (cells more : List Built) (vars : List ℕ) (bound : List (Option ℕ)) (v : ℕ) → IsFree cells vars bound v → IsFree (cells ++ more) vars bound v
-free_with cells more vars bound v free = record { there = free.there; unbound = free.unbound; own = λ i h. get_kept cells more i (built.Var v) (free.own i h) }
+free_with : (cells more : List Built) (vars : List ℕ) (order : List Binding) (v : ℕ) → IsFree cells vars order v → IsFree (cells ++ more) vars order v
+free_with cells more vars order v free = record { there = free.there; unbound = free.unbound; own = λ i h. get_kept cells more i (built.Var v) (free.own i h) }
 
 -- one more cell, which is no variable
-module _ (cells : List Built) (vars : List ℕ) (bound : List (Option ℕ)) (order : List Binding) (c : Built) (heap : IsHeap cells vars bound order) (fits : Fits (length cells) (length bound) c) (plain : (n : ℕ) → c ≡ built.Var n → ⊥) where
+module _ (cells : List Built) (vars : List ℕ) (order : List Binding) (c : Built) (heap : IsHeap cells vars order) (fits : Fits (length cells) (length vars) c) (plain : (n : ℕ) → c ≡ built.Var n → ⊥) where
   ts : List HeapTerm
   ts = meanings cells order
 
-  new_fits : Fits (length cells) (suc (length bound)) c
-  new_fits = fits_below (length cells) (length cells) (length bound) c (omega arith) fits
+  new_fits : Fits (length cells) (suc (length vars)) c
+  new_fits = fits_below (length cells) (length cells) (length vars) c (omega arith) fits
 
   pub meanings_cell : meanings (cells ++ c ∷ []) order ≡ meanings cells order ++ raw_cell (meanings cells order) c ∷ []
-  meanings_cell = meanings_push cells vars bound order c heap new_fits (λ n e. absurd (plain n e))
+  meanings_cell = meanings_push cells vars order c heap new_fits (λ n e. absurd (plain n e))
 
-  heads_old : (i : ℕ) (d : Built) → slice_get cells i ≡ Some d → Head (meanings cells order ++ raw_cell (meanings cells order) c ∷ []) bound d (at (meanings cells order ++ raw_cell (meanings cells order) c ∷ []) i)
+  heads_old : (i : ℕ) (d : Built) → slice_get cells i ≡ Some d → Head (meanings cells order ++ raw_cell (meanings cells order) c ∷ []) order d (at (meanings cells order ++ raw_cell (meanings cells order) c ∷ []) i)
   heads_old i d h =
       let l = length-meanings cells order in
       let w : i < length cells = slice_get_within cells i d h in
       rw (at-append (meanings cells order) (raw_cell (meanings cells order) c ∷ []) i (omega arith))
-      (head_more (meanings cells order) (raw_cell (meanings cells order) c ∷ []) bound d (at (meanings cells order) i) (suc (length bound))
-      (λ v u e. let p = heap.targets v u e in omega (arith, p.0))
-      (fits_below i (length (meanings cells order)) (length bound) d (omega arith) (heap.fits i d h))
+      (head_more (meanings cells order) (raw_cell (meanings cells order) c ∷ []) order d (at (meanings cells order) i) (suc (length vars))
+      (λ v u e. let p = targets heap v u e in omega (arith, p.0))
+      (fits_below i (length (meanings cells order)) (length vars) d (omega arith) (heap.fits i d h))
       (heap.heads i d h))
 
-  head_new : Head (meanings cells order ++ raw_cell (meanings cells order) c ∷ []) bound c (raw_cell (meanings cells order) c)
+  head_new : Head (meanings cells order ++ raw_cell (meanings cells order) c ∷ []) order c (raw_cell (meanings cells order) c)
   head_new = go c fits plain
     where
-      go : (d : Built) → Fits (length cells) (length bound) d → ((n : ℕ) → d ≡ built.Var n → ⊥) → Head (meanings cells order ++ raw_cell (meanings cells order) c ∷ []) bound d (raw_cell (meanings cells order) d)
+      go : (d : Built) → Fits (length cells) (length vars) d → ((n : ℕ) → d ≡ built.Var n → ⊥) → Head (meanings cells order ++ raw_cell (meanings cells order) c ∷ []) order d (raw_cell (meanings cells order) d)
       go (built.Var n) f p = absurd (p n refl)
       go (built.Number n) f p = refl
       go (built.Name n) f p = refl
       go (built.Compound g args) f p = ap (with_arguments g) (sym (map_at-append (meanings cells order) (raw_cell (meanings cells order) c ∷ []) args (length cells) (omega (arith, length-meanings cells order)) f.1))
 
-  free_new : (v : ℕ) → Occurs v (raw_cell (meanings cells order) c) → IsFree cells vars bound v
+  free_new : (v : ℕ) → Occurs v (raw_cell (meanings cells order) c) → IsFree cells vars order v
   free_new = go c plain
     where
-      go : (d : Built) → ((n : ℕ) → d ≡ built.Var n → ⊥) → (v : ℕ) → Occurs v (raw_cell (meanings cells order) d) → IsFree cells vars bound v
+      go : (d : Built) → ((n : ℕ) → d ≡ built.Var n → ⊥) → (v : ℕ) → Occurs v (raw_cell (meanings cells order) d) → IsFree cells vars order v
       go (built.Var n) p v o = absurd (p n refl)
       go (built.Number n) p v o = absurd o
       go (built.Name n) p v o = absurd o
       go (built.Compound g args) p v o = let q = occurs_with_arguments (meanings cells order) g args v o in heap.free q.0 v q.1
 
-  pub is_heap_cell : IsHeap (cells ++ c ∷ []) vars bound order
+  pub is_heap_cell : IsHeap (cells ++ c ∷ []) vars order
   is_heap_cell = record {
     fits = λ i d h. elim (get_push cells c i d h) [
       | inl p ↦ heap.fits i d p
-      | inr q ↦ subst (λ (x : Built). Fits i (length bound) x) q.1 (subst (λ (x : ℕ). Fits x (length bound) c) (sym q.0) fits)
+      | inr q ↦ subst (λ (x : Built). Fits i (length vars) x) q.1 (subst (λ (x : ℕ). Fits x (length vars) c) (sym q.0) fits)
     ];
     heads = λ i d h. rw meanings_cell (elim (get_push cells c i d h) [
       | inl p ↦ heads_old i d p
-      | inr q ↦ subst (λ (x : Built). Head (meanings cells order ++ raw_cell (meanings cells order) c ∷ []) bound x (at (meanings cells order ++ raw_cell (meanings cells order) c ∷ []) i)) q.1
+      | inr q ↦ subst (λ (x : Built). Head (meanings cells order ++ raw_cell (meanings cells order) c ∷ []) order x (at (meanings cells order ++ raw_cell (meanings cells order) c ∷ []) i)) q.1
           (rw (get_or_push (meanings cells order) (raw_cell (meanings cells order) c) blank i (length-meanings cells order ∙ sym q.0)) head_new)
     ]);
-    free = λ i v. rw meanings_cell (λ o. free_with cells (c ∷ []) vars bound v (elim (at_cases (meanings cells order) (raw_cell (meanings cells order) c) i) [
+    free = λ i v. rw meanings_cell (λ o. free_with cells (c ∷ []) vars order v (elim (at_cases (meanings cells order) (raw_cell (meanings cells order) c) i) [
       | inl p ↦ heap.free i v (rw p at o)
       | inr q ↦ free_new v (rw q at o)
     ]));
     homes = λ n i h. omega (arith, heap.homes n i h, length-append cells (c ∷ []));
-    one_each = heap.one_each;
     bindings = λ k b h. let p = heap.bindings k b h in (omega (arith, p.0, length-append cells (c ∷ [])), p.1);
-    targets = λ v u h. let p = heap.targets v u h in (omega (arith, p.0, length-append cells (c ∷ [])), p.1);
-    unbound = heap.unbound;
+    single = λ i v h. elim (get_push cells c i (built.Var v) h) [ inl p ↦ heap.single i v p | inr q ↦ absurd (plain v q.1) ];
     chain = λ v u m h e. elim (get_push cells c u (built.Var m) e) [
       | inl p ↦ heap.chain v u m h p
       | inr q ↦ absurd (plain m q.1)
     ];
   }
 
-fits_grow : (i : ℕ) (bound : List (Option ℕ)) (d : Built) → Fits i (length bound) d → Fits i (length (bound ++ None ∷ [])) d
-fits_grow i bound d f = rw (length-append, add-one) (fits_below i i (length bound) d (omega arith) f)
+fits_grow : (i id : ℕ) (vars : List ℕ) (d : Built) → Fits i (length vars) d → Fits i (length (vars ++ id ∷ [])) d
+fits_grow i id vars d f = rw (length-append, add-one) (fits_below i i (length vars) d (omega arith) f)
 
 -- a variable stays free where another is made
-free_behind : (cells : List Built) (vars : List ℕ) (bound : List (Option ℕ)) (id v : ℕ) → length vars ≡ length bound → IsFree cells vars bound v → IsFree cells (vars ++ id ∷ []) (bound ++ None ∷ []) v
-free_behind cells vars bound id v each free = record {
-  there = omega (arith, free.there, length-append bound (None ∷ []));
-  unbound = target-push bound v ∙ free.unbound;
+free_behind : (cells : List Built) (vars : List ℕ) (order : List Binding) (id v : ℕ) → IsFree cells vars order v → IsFree cells (vars ++ id ∷ []) order v
+free_behind cells vars order id v free = record {
+  there = omega (arith, free.there, length-append vars (id ∷ []));
+  unbound = free.unbound;
   own = λ i h. elim (get_push vars id v i h) [
     | inl p ↦ free.own i p
     | inr q ↦ absurd (omega (arith, q.0, free.there))
@@ -170,75 +191,77 @@ free_behind cells vars bound id v each free = record {
 }
 
 -- one more variable
-module _ (cells : List Built) (vars : List ℕ) (bound : List (Option ℕ)) (order : List Binding) (heap : IsHeap cells vars bound order) where
-  pub meanings_var : meanings (cells ++ built.Var (length bound) ∷ []) order ≡ meanings cells order ++ Var (length bound) ∷ []
-  meanings_var = meanings_push cells vars bound order (built.Var (length bound)) heap (omega arith) (λ n e. cc)
+module _ (cells : List Built) (vars : List ℕ) (order : List Binding) (heap : IsHeap cells vars order) where
+  pub meanings_var : meanings (cells ++ built.Var (length vars) ∷ []) order ≡ meanings cells order ++ Var (length vars) ∷ []
+  meanings_var = meanings_push cells vars order (built.Var (length vars)) heap (omega arith) (λ n e. cc)
 
-  heads_var_old : (i : ℕ) (d : Built) → slice_get cells i ≡ Some d → Head (meanings cells order ++ Var (length bound) ∷ []) (bound ++ None ∷ []) d (at (meanings cells order ++ Var (length bound) ∷ []) i)
+  heads_var_old : (i : ℕ) (d : Built) → slice_get cells i ≡ Some d → Head (meanings cells order ++ Var (length vars) ∷ []) order d (at (meanings cells order ++ Var (length vars) ∷ []) i)
   heads_var_old i d h =
       let l = length-meanings cells order in
       let w : i < length cells = slice_get_within cells i d h in
-      rw (at-append (meanings cells order) (Var (length bound) ∷ []) i (omega arith))
-      (head_bound (meanings cells order ++ Var (length bound) ∷ []) bound (bound ++ None ∷ []) d (at (meanings cells order) i) (λ n e. target-push bound n)
-      (head_more (meanings cells order) (Var (length bound) ∷ []) bound d (at (meanings cells order) i) (suc (length bound))
-      (λ v u e. let p = heap.targets v u e in omega (arith, p.0))
-      (fits_below i (length (meanings cells order)) (length bound) d (omega arith) (heap.fits i d h))
-      (heap.heads i d h)))
+      rw (at-append (meanings cells order) (Var (length vars) ∷ []) i (omega arith))
+      (head_more (meanings cells order) (Var (length vars) ∷ []) order d (at (meanings cells order) i) (suc (length vars))
+      (λ v u e. let p = targets heap v u e in omega (arith, p.0))
+      (fits_below i (length (meanings cells order)) (length vars) d (omega arith) (heap.fits i d h))
+      (heap.heads i d h))
 
-  head_var_new : Head (meanings cells order ++ Var (length bound) ∷ []) (bound ++ None ∷ []) (built.Var (length bound)) (Var (length bound))
-  head_var_new = rw (target-push bound (length bound), target_past bound (length bound) (omega arith)) refl
+  fresh : target order (length vars) ≡ None
+  fresh = target_fresh (length vars) order (λ k b h. (heap.bindings k b h).1)
 
-  free_var_new : IsFree (cells ++ built.Var (length bound) ∷ []) (vars ++ length cells ∷ []) (bound ++ None ∷ []) (length bound)
+  head_var_new : Head (meanings cells order ++ Var (length vars) ∷ []) order (built.Var (length vars)) (Var (length vars))
+  head_var_new = rw fresh refl
+
+  free_var_new : IsFree (cells ++ built.Var (length vars) ∷ []) (vars ++ length cells ∷ []) order (length vars)
   free_var_new = record {
-    there = omega (arith, length-append bound (None ∷ []));
-    unbound = target-push bound (length bound) ∙ target_past bound (length bound) (omega arith);
-    own = λ i h. elim (get_push vars (length cells) (length bound) i h) [
-      | inl p ↦ absurd (omega (arith, heap.one_each, slice_get_within vars (length bound) i p))
-      | inr q ↦ subst (λ (x : ℕ). slice_get (cells ++ built.Var (length bound) ∷ []) x ≡ Some (built.Var (length bound))) q.1 (get_last cells (built.Var (length bound)))
+    there = omega (arith, length-append vars (length cells ∷ []));
+    unbound = fresh;
+    own = λ i h. elim (get_push vars (length cells) (length vars) i h) [
+      | inl p ↦ absurd (omega (arith, slice_get_within vars (length vars) i p))
+      | inr q ↦ subst (λ (x : ℕ). slice_get (cells ++ built.Var (length vars) ∷ []) x ≡ Some (built.Var (length vars))) q.1 (get_last cells (built.Var (length vars)))
     ];
   }
 
-  pub is_heap_var : IsHeap (cells ++ built.Var (length bound) ∷ []) (vars ++ length cells ∷ []) (bound ++ None ∷ []) order
+  pub is_heap_var : IsHeap (cells ++ built.Var (length vars) ∷ []) (vars ++ length cells ∷ []) order
   is_heap_var = record {
-    fits = λ i d h. elim (get_push cells (built.Var (length bound)) i d h) [
-      | inl p ↦ fits_grow i bound d (heap.fits i d p)
-      | inr q ↦ subst (λ (x : Built). Fits i (length (bound ++ None ∷ [])) x) q.1 (simp (length-append) (omega arith))
+    fits = λ i d h. elim (get_push cells (built.Var (length vars)) i d h) [
+      | inl p ↦ fits_grow i (length cells) vars d (heap.fits i d p)
+      | inr q ↦ subst (λ (x : Built). Fits i (length (vars ++ length cells ∷ [])) x) q.1 (simp (length-append) (omega arith))
     ];
-    heads = λ i d h. rw meanings_var (elim (get_push cells (built.Var (length bound)) i d h) [
+    heads = λ i d h. rw meanings_var (elim (get_push cells (built.Var (length vars)) i d h) [
       | inl p ↦ heads_var_old i d p
-      | inr q ↦ subst (λ (x : Built). Head (meanings cells order ++ Var (length bound) ∷ []) (bound ++ None ∷ []) x (at (meanings cells order ++ Var (length bound) ∷ []) i)) q.1
-          (rw (get_or_push (meanings cells order) (Var (length bound)) blank i (length-meanings cells order ∙ sym q.0)) head_var_new)
+      | inr q ↦ subst (λ (x : Built). Head (meanings cells order ++ Var (length vars) ∷ []) order x (at (meanings cells order ++ Var (length vars) ∷ []) i)) q.1
+          (rw (get_or_push (meanings cells order) (Var (length vars)) blank i (length-meanings cells order ∙ sym q.0)) head_var_new)
     ]);
-    free = λ i v. rw meanings_var (λ o. elim (at_cases (meanings cells order) (Var (length bound)) i) [
-      | inl p ↦ free_behind (cells ++ built.Var (length bound) ∷ []) vars bound (length cells) v heap.one_each (free_with cells (built.Var (length bound) ∷ []) vars bound v (heap.free i v (rw p at o)))
-      | inr q ↦ subst (IsFree (cells ++ built.Var (length bound) ∷ []) (vars ++ length cells ∷ []) (bound ++ None ∷ [])) (sym (rw q at o)) free_var_new
+    free = λ i v. rw meanings_var (λ o. elim (at_cases (meanings cells order) (Var (length vars)) i) [
+      | inl p ↦ free_behind (cells ++ built.Var (length vars) ∷ []) vars order (length cells) v (free_with cells (built.Var (length vars) ∷ []) vars order v (heap.free i v (rw p at o)))
+      | inr q ↦ subst (IsFree (cells ++ built.Var (length vars) ∷ []) (vars ++ length cells ∷ []) order) (sym (rw q at o)) free_var_new
     ]);
     homes = λ n i h. elim (get_push vars (length cells) n i h) [
-      | inl p ↦ omega (arith, heap.homes n i p, length-append cells (built.Var (length bound) ∷ []))
-      | inr q ↦ omega (arith, q.1, length-append cells (built.Var (length bound) ∷ []))
+      | inl p ↦ omega (arith, heap.homes n i p, length-append cells (built.Var (length vars) ∷ []))
+      | inr q ↦ omega (arith, q.1, length-append cells (built.Var (length vars) ∷ []))
     ];
-    one_each = simp (length-append) (omega (arith, heap.one_each));
-    bindings = λ k b h. let p = heap.bindings k b h in (omega (arith, p.0, length-append cells (built.Var (length bound) ∷ [])), omega (arith, p.1, length-append bound (None ∷ [])));
-    targets = λ v u. rw (target-push bound v) (λ h. (let p = heap.targets v u h in (omega (arith, p.0, length-append cells (built.Var (length bound) ∷ [])), p.1)));
-    unbound = λ v. rw (target-push bound v) (heap.unbound v);
-    chain = λ v u m. rw (target-push bound v) (λ h e. elim (get_push cells (built.Var (length bound)) u (built.Var m) e) [
+    single = λ i v h. elim (get_push cells (built.Var (length vars)) i (built.Var v) h) [
+      | inl p ↦ get_kept vars (length cells ∷ []) v i (heap.single i v p)
+      | inr q ↦ (let same : length vars ≡ v = cc in
+          subst (λ (x : ℕ). slice_get (vars ++ length cells ∷ []) x ≡ Some i) same (get_last vars (length cells) ∙ ap Some (sym q.0)))
+    ];
+    bindings = λ k b h. let p = heap.bindings k b h in (omega (arith, p.0, length-append cells (built.Var (length vars) ∷ [])), omega (arith, p.1, length-append vars (length cells ∷ [])));
+    chain = λ v u m h e. elim (get_push cells (built.Var (length vars)) u (built.Var m) e) [
       | inl p ↦ heap.chain v u m h p
-      | inr q ↦ (let w = heap.targets v u h in absurd (omega (arith, w.0, q.0)))
-    ]);
+      | inr q ↦ (let w = targets heap v u h in absurd (omega (arith, w.0, q.0)))
+    ];
   }
 
 -- one more variable, which is bound to a term from the start
-pub is_heap_bound : (cells : List Built) (vars : List ℕ) (bound : List (Option ℕ)) (order : List Binding) (id : ℕ) → id < length cells → IsHeap cells vars bound order → IsHeap cells (vars ++ id ∷ []) (bound ++ None ∷ []) order
-is_heap_bound cells vars bound order id live heap = record {
-  fits = λ i d h. fits_grow i bound d (heap.fits i d h);
-  heads = λ i d h. head_bound (meanings cells order) bound (bound ++ None ∷ []) d (at (meanings cells order) i) (λ n e. target-push bound n) (heap.heads i d h);
-  free = λ i v o. free_behind cells vars bound id v heap.one_each (heap.free i v o);
+pub is_heap_bound : (cells : List Built) (vars : List ℕ) (order : List Binding) (id : ℕ) → id < length cells → IsHeap cells vars order → IsHeap cells (vars ++ id ∷ []) order
+is_heap_bound cells vars order id live heap = record {
+  fits = λ i d h. fits_grow i id vars d (heap.fits i d h);
+  heads = heap.heads;
+  free = λ i v o. free_behind cells vars order id v (heap.free i v o);
   homes = λ n i h. elim (get_push vars id n i h) [ inl p ↦ heap.homes n i p | inr q ↦ omega (arith, q.1) ];
-  one_each = simp (length-append) (omega (arith, heap.one_each));
-  bindings = λ k b h. let p = heap.bindings k b h in (p.0, omega (arith, p.1, length-append bound (None ∷ [])));
-  targets = λ v u. rw (target-push bound v) (heap.targets v u);
-  unbound = λ v. rw (target-push bound v) (heap.unbound v);
-  chain = λ v u m. rw (target-push bound v) (heap.chain v u m);
+  single = λ i v h. get_kept vars (id ∷ []) v i (heap.single i v h);
+  bindings = λ k b h. let p = heap.bindings k b h in (p.0, omega (arith, p.1, length-append vars (id ∷ [])));
+  chain = heap.chain;
 }
 
 -- a variable of the result is one of the new term, or another one of the old
@@ -273,7 +296,7 @@ pub subst_same : (v : ℕ) (u : HeapTerm) → apply (single v u) (Var v) ≡ u
 subst_same v u = single_same v u
 
 -- one more binding
-module _ (cells : List Built) (vars : List ℕ) (bound : List (Option ℕ)) (order : List Binding) (v t : ℕ) (heap : IsHeap cells vars bound order) (there : v < length bound) (unbound : target bound v ≡ None) (live : t < length cells) (apart : Occurs v (at (meanings cells order) t) → ⊥) (last : (n : ℕ) → slice_get cells t ≡ Some (built.Var n) → target bound n ≡ None) where
+module _ (cells : List Built) (vars : List ℕ) (order : List Binding) (v t : ℕ) (heap : IsHeap cells vars order) (there : v < length vars) (unbound : target order v ≡ None) (live : t < length cells) (apart : Occurs v (at (meanings cells order) t) → ⊥) (last : (n : ℕ) → slice_get cells t ≡ Some (built.Var n) → target order n ≡ None) where
   abbrev u : HeapTerm
   u = at (meanings cells order) t
 
@@ -284,33 +307,33 @@ module _ (cells : List Built) (vars : List ℕ) (bound : List (Option ℕ)) (ord
   unfolding meanings
   meanings_bind = after_push order binding (raws_from [] cells)
 
-  same : target (set bound v (Some t)) v ≡ Some t
-  same = get_or-set_same bound v (Some t) None there
+  same : target (order ++ binding ∷ []) v ≡ Some t
+  same = target_last order binding unbound
 
-  other : (n : ℕ) → n ≢ v → target (set bound v (Some t)) n ≡ target bound n
-  other n h = get_or-set_other bound v n (Some t) None h
+  other : (n : ℕ) → n ≢ v → target (order ++ binding ∷ []) n ≡ target order n
+  other n h = target_other order binding n h
 
   head_other : (n : ℕ) (o : Option ℕ) (x : HeapTerm) → n ≢ v → MatchOption o (x ≡ Var n) (λ w. x ≡ at (meanings cells order) w) → MatchOption o (apply (single v u) x ≡ Var n) (λ w. apply (single v u) x ≡ at (map (apply (single v u)) (meanings cells order)) w)
   head_other n None x h m = rw m (subst-new v n u (λ e. h (sym e)))
   head_other n (Some w) x h m = ap (apply (single v u)) m ∙ sym (at-map-subst v u (meanings cells order) w)
 
-  head_bind : (d : Built) (x : HeapTerm) → Fits (length cells) (length bound) d → Head (meanings cells order) bound d x → Head (map (apply (single v u)) (meanings cells order)) (set bound v (Some t)) d (apply (single v u) x)
+  head_bind : (d : Built) (x : HeapTerm) → Fits (length cells) (length vars) d → Head (meanings cells order) order d x → Head (map (apply (single v u)) (meanings cells order)) (order ++ binding ∷ []) d (apply (single v u) x)
   head_bind (built.Var n) x f m = elim (cases_eq n v) [
     | inl e ↦ rw (e, same) (let p : x ≡ Var v = rw (e, unbound) at m in
         ap (apply (single v u)) p ∙ subst_same v u ∙ sym (at-map-subst v u (meanings cells order) t ∙ apply-single_absent v u u apart))
-    | inr ne ↦ rw (other n ne) (head_other n (target bound n) x ne m)
+    | inr ne ↦ rw (other n ne) (head_other n (target order n) x ne m)
   ]
   head_bind (built.Number n) x f m = ap (apply (single v u)) m
   head_bind (built.Name n) x f m = ap (apply (single v u)) m
   head_bind (built.Compound g args) x f m = ap (apply (single v u)) m ∙ apply-with_arguments (single v u) g (map (at (meanings cells order)) args) ∙ ap (with_arguments g) (sym (map_at-map v u (meanings cells order) args (length cells) (omega (arith, length-meanings cells order)) f.1))
 
-  fits_within : (i : ℕ) (d : Built) → slice_get cells i ≡ Some d → Fits (length cells) (length bound) d
-  fits_within i d h = let w : i < length cells = slice_get_within cells i d h in fits_up i (length cells) (length bound) d (omega arith) (heap.fits i d h)
+  fits_within : (i : ℕ) (d : Built) → slice_get cells i ≡ Some d → Fits (length cells) (length vars) d
+  fits_within i d h = let w : i < length cells = slice_get_within cells i d h in fits_up i (length cells) (length vars) d (omega arith) (heap.fits i d h)
 
-  free_other : (w : ℕ) → w ≢ v → IsFree cells vars bound w → IsFree cells vars (set bound v (Some t)) w
-  free_other w ne free = record { there = rw length-set free.there; unbound = other w ne ∙ free.unbound; own = free.own }
+  free_other : (w : ℕ) → w ≢ v → IsFree cells vars order w → IsFree cells vars (order ++ binding ∷ []) w
+  free_other w ne free = record { there = free.there; unbound = other w ne ∙ free.unbound; own = free.own }
 
-  free_bind : (w : ℕ) (x : HeapTerm) → ((y : ℕ) → Occurs y x → IsFree cells vars bound y) → Occurs w (apply (single v u) x) → IsFree cells vars (set bound v (Some t)) w
+  free_bind : (w : ℕ) (x : HeapTerm) → ((y : ℕ) → Occurs y x → IsFree cells vars order y) → Occurs w (apply (single v u) x) → IsFree cells vars (order ++ binding ∷ []) w
   free_bind w x h o = elim (occurs_subst w v u x o) [
     | inl a ↦ free_other w (λ e. apart (subst (λ (y : ℕ). Occurs y u) e a)) (heap.free t w a)
     | inr b ↦ free_other w b.1 (h w b.0)
@@ -318,7 +341,7 @@ module _ (cells : List Built) (vars : List ℕ) (bound : List (Option ℕ)) (ord
 
   left_same : left_after (order ++ binding ∷ []) v ≡ 1
   left_same = elim (left_push order binding v) [
-    | inl p ↦ absurd (omega (arith, heap.unbound v unbound, p.1))
+    | inl p ↦ absurd (omega (arith, unbound_left order v unbound, p.1))
     | inr q ↦ q.1 ∙ rw (eq-eqb v v refl) refl
   ]
 
@@ -337,17 +360,17 @@ module _ (cells : List Built) (vars : List ℕ) (bound : List (Option ℕ)) (ord
     | inr q ↦ rw q.1 (elim (v == n) as (λ b. cond b 1 0 ≤ left_after order n + 1) [ true ↦ omega arith | false ↦ omega arith ])
   ]
 
-  target_cases : (w x : ℕ) → target (set bound v (Some t)) w ≡ Some x → ((w ≡ v) × (x ≡ t)) ⊎ ((w ≢ v) × (target bound w ≡ Some x))
+  target_cases : (w x : ℕ) → target (order ++ binding ∷ []) w ≡ Some x → ((w ≡ v) × (x ≡ t)) ⊎ ((w ≢ v) × (target order w ≡ Some x))
   target_cases w x h = elim (cases_eq w v) [
     | inl e ↦ inl (e, same_Some x t (sym (rw (e, same) at h)))
     | inr ne ↦ inr (ne, rw (other w ne) at h)
   ]
 
-  chain_bind : (w x m : ℕ) → target (set bound v (Some t)) w ≡ Some x → slice_get cells x ≡ Some (built.Var m) → left_after (order ++ binding ∷ []) m < left_after (order ++ binding ∷ []) w
+  chain_bind : (w x m : ℕ) → target (order ++ binding ∷ []) w ≡ Some x → slice_get cells x ≡ Some (built.Var m) → left_after (order ++ binding ∷ []) m < left_after (order ++ binding ∷ []) w
   chain_bind w x m h e = elim (target_cases w x h) [
     | inl p ↦ (
         let c : slice_get cells t ≡ Some (built.Var m) = rw p.1 at e in
-        let z = heap.unbound m (last m c) in
+        let z = unbound_left order m (last m c) in
         let ne : m ≢ v = λ q. apart (subst (λ (y : HeapTerm). Occurs v y) (sym (MatchOption-at_none _ _ (last m c) (heap.heads t (built.Var m) c))) (sym q)) in
         rw (p.0, left_same, left_none m z ne) (omega arith))
     | inr p ↦ (
@@ -355,24 +378,16 @@ module _ (cells : List Built) (vars : List ℕ) (bound : List (Option ℕ)) (ord
         omega (arith, left_other w (omega arith), left_most m))
   ]
 
-  pub is_heap_bind : IsHeap cells vars (set bound v (Some t)) (order ++ binding ∷ [])
+  pub is_heap_bind : IsHeap cells vars (order ++ binding ∷ [])
   is_heap_bind = record {
-    fits = λ i d h. rw length-set (heap.fits i d h);
+    fits = heap.fits;
     heads = λ i d h. rw (meanings_bind, at-map-subst v u (meanings cells order) i) (head_bind d (at (meanings cells order) i) (fits_within i d h) (heap.heads i d h));
     free = λ i w. rw (meanings_bind, at-map-subst v u (meanings cells order) i) (λ o. free_bind w (at (meanings cells order) i) (heap.free i) o);
     homes = heap.homes;
-    one_each = rw length-set heap.one_each;
-    bindings = λ k b h. rw length-set (elim (get_push order binding k b h) [
+    single = heap.single;
+    bindings = λ k b h. elim (get_push order binding k b h) [
       | inl p ↦ heap.bindings k b p
-      | inr q ↦ subst (λ (x : Binding). (x.term < length cells) × (x.variable < length bound)) q.1 (live, there)
-    ]);
-    targets = λ w x h. elim (target_cases w x h) [
-      | inl p ↦ rw (p.0, p.1, left_same) (live, omega arith)
-      | inr p ↦ (let q = heap.targets w x p.1 in (q.0, omega (arith, left_other w q.1)))
-    ];
-    unbound = λ w h. elim (cases_eq w v) [
-      | inl e ↦ absurd (none-some t (sym (rw (e, same) at h)))
-      | inr ne ↦ left_none w (heap.unbound w (rw (other w ne) at h)) ne
+      | inr q ↦ subst (λ (x : Binding). (x.term < length cells) × (x.variable < length vars)) q.1 (live, there)
     ];
     chain = chain_bind;
   }
@@ -381,7 +396,7 @@ module _ (cells : List Built) (vars : List ℕ) (bound : List (Option ℕ)) (ord
 pub read_at : (cells : List Built) (i : ℕ) (x c : Built) → i < length cells → x ≡ get_or cells i x → x ≡ c → slice_get cells i ≡ Some c
 read_at cells i x c h e s = slice_get_read cells (length cells) i x refl h e ∙ ap Some s
 
-module _ (cells : List Built) (vars : List ℕ) (bound : List (Option ℕ)) (order : List Binding) (heap : IsHeap cells vars bound order) (i n u : ℕ) (here : slice_get cells i ≡ Some (built.Var n)) (bind : target bound n ≡ Some u) where
+module _ (cells : List Built) (vars : List ℕ) (order : List Binding) (heap : IsHeap cells vars order) (i n u : ℕ) (here : slice_get cells i ≡ Some (built.Var n)) (bind : target order n ≡ Some u) where
   pub follow_same : at (meanings cells order) u ≡ at (meanings cells order) i
   follow_same = sym (MatchOption-at_some (at (meanings cells order) i ≡ Var n) (λ w. at (meanings cells order) i ≡ at (meanings cells order) w) u bind (heap.heads i (built.Var n) here))
 
@@ -389,32 +404,32 @@ module _ (cells : List Built) (vars : List ℕ) (bound : List (Option ℕ)) (ord
   follow_less = rw here (go (slice_get cells u) refl)
     where
       go : (o : Option Built) → slice_get cells u ≡ o → left_at order o < left_after order n
-      go None e = (heap.targets n u bind).1
+      go None e = (targets heap n u bind).1
       go (Some (built.Var m)) e = heap.chain n u m bind e
-      go (Some (built.Number m)) e = (heap.targets n u bind).1
-      go (Some (built.Name m)) e = (heap.targets n u bind).1
-      go (Some (built.Compound f args)) e = (heap.targets n u bind).1
+      go (Some (built.Number m)) e = (targets heap n u bind).1
+      go (Some (built.Name m)) e = (targets heap n u bind).1
+      go (Some (built.Compound f args)) e = (targets heap n u bind).1
 
-pub at_none : (cells : List Built) (bound : List (Option ℕ)) (i n m : ℕ) → slice_get cells i ≡ Some (built.Var n) → target bound n ≡ None → slice_get cells i ≡ Some (built.Var m) → target bound m ≡ None
-at_none cells bound i n m c b e = let q : n ≡ m = cc in rw (← q) b
+pub at_none : (cells : List Built) (order : List Binding) (i n m : ℕ) → slice_get cells i ≡ Some (built.Var n) → target order n ≡ None → slice_get cells i ≡ Some (built.Var m) → target order m ≡ None
+at_none cells order i n m c b e = let q : n ≡ m = cc in rw (← q) b
 
 -- an unbound variable, by its image
-module _ (cells : List Built) (vars : List ℕ) (bound : List (Option ℕ)) (order : List Binding) (heap : IsHeap cells vars bound order) (v : ℕ) (there : v < length (map (at (meanings cells order)) vars)) (image : at (map (at (meanings cells order)) vars) v ≡ Var v) where
-  pub var_within : v < length bound
-  var_within = omega (arith, length-map vars (at (meanings cells order)), heap.one_each)
+module _ (cells : List Built) (vars : List ℕ) (order : List Binding) (heap : IsHeap cells vars order) (v : ℕ) (there : v < length (map (at (meanings cells order)) vars)) (image : at (map (at (meanings cells order)) vars) v ≡ Var v) where
+  pub var_within : v < length vars
+  var_within = omega (arith, length-map vars (at (meanings cells order)))
 
-  pub var_unbound : target bound v ≡ None
+  pub var_unbound : target order v ≡ None
   var_unbound =
       let w : v < length vars = omega (arith, length-map vars (at (meanings cells order))) in
       let h : at (meanings cells order) (get_or vars v 0) ≡ Var v = sym (get_or-map (at (meanings cells order)) vars v 0 blank w) ∙ image in
       (heap.free (get_or vars v 0) v (subst (λ (x : HeapTerm). Occurs v x) (sym h) refl)).unbound
 
-  module _ (term e : ℕ) (r : Resolved cells bound order term e) (apart : Occurs v (at (meanings cells order) term) → ⊥) where
-    pub bind_heap : IsHeap cells vars (set bound v (Some e)) (order ++ record { variable = v; term = e } ∷ [])
-    bind_heap = is_heap_bind cells vars bound order v e heap var_within var_unbound r.live (rw r.same apart) r.last
+  module _ (term e : ℕ) (r : Resolved cells order term e) (apart : Occurs v (at (meanings cells order) term) → ⊥) where
+    pub bind_heap : IsHeap cells vars (order ++ record { variable = v; term = e } ∷ [])
+    bind_heap = is_heap_bind cells vars order v e heap var_within var_unbound r.live (rw r.same apart) r.last
 
     pub bind_terms : meanings cells (order ++ record { variable = v; term = e } ∷ []) ≡ map (apply (single v (at (meanings cells order) term))) (meanings cells order)
-    bind_terms = rw (← r.same) (meanings_bind cells vars bound order v e heap var_within var_unbound r.live (rw r.same apart) r.last)
+    bind_terms = rw (← r.same) (meanings_bind cells vars order v e heap var_within var_unbound r.live (rw r.same apart) r.last)
 
 map_at_subst : (v : ℕ) (u : HeapTerm) (ts : List HeapTerm) (is : List ℕ) → map (at (map (apply (single v u)) ts)) is ≡ map (apply (single v u)) (map (at ts) is)
 map_at_subst v u ts [] = refl
@@ -430,18 +445,18 @@ cell_view (built.Number n) = view.Number n
 cell_view (built.Name a) = view.Name a
 cell_view (built.Compound f args) = view.Compound f (length args)
 
-head_shows : (ts : List HeapTerm) (bound : List (Option ℕ)) (c : Built) (t : HeapTerm) (i vars : ℕ) → Fits i vars c → ((n : ℕ) → c ≡ built.Var n → target bound n ≡ None) → Head ts bound c t → view_of t ≡ cell_view c
-head_shows ts bound (built.Var n) t i vars f last h = ap view_of (MatchOption-at_none (t ≡ Var n) (λ u. t ≡ at ts u) (last n refl) h)
-head_shows ts bound (built.Number n) t i vars f last h = ap view_of h
-head_shows ts bound (built.Name a) t i vars f last h = ap view_of h
-head_shows ts bound (built.Compound g args) t i vars f last h =
+head_shows : (ts : List HeapTerm) (order : List Binding) (c : Built) (t : HeapTerm) (i vars : ℕ) → Fits i vars c → ((n : ℕ) → c ≡ built.Var n → target order n ≡ None) → Head ts order c t → view_of t ≡ cell_view c
+head_shows ts order (built.Var n) t i vars f last h = ap view_of (MatchOption-at_none (t ≡ Var n) (λ u. t ≡ at ts u) (last n refl) h)
+head_shows ts order (built.Number n) t i vars f last h = ap view_of h
+head_shows ts order (built.Name a) t i vars f last h = ap view_of h
+head_shows ts order (built.Compound g args) t i vars f last h =
     let size : length (map (at ts) args) ≡ length args = rw length-map in
     ap view_of h ∙ view_of-with_arguments g (map (at ts) args) (rw size f.0) ∙ ap (view.Compound g) size
 
-pub shows : (cells : List Built) (vars : List ℕ) (bound : List (Option ℕ)) (order : List Binding) (heap : IsHeap cells vars bound order) (id e : ℕ) (r : Resolved cells bound order id e) (x c : Built) → slice_get cells e ≡ Some x → x ≡ c → view_of (at (meanings cells order) id) ≡ cell_view c
-shows cells vars bound order heap id e r x c at_e same =
+pub shows : (cells : List Built) (vars : List ℕ) (order : List Binding) (heap : IsHeap cells vars order) (id e : ℕ) (r : Resolved cells order id e) (x c : Built) → slice_get cells e ≡ Some x → x ≡ c → view_of (at (meanings cells order) id) ≡ cell_view c
+shows cells vars order heap id e r x c at_e same =
     let s : slice_get cells e ≡ Some c = at_e ∙ ap Some same in
-    rw (← r.same) (head_shows (meanings cells order) bound c (at (meanings cells order) e) e (length bound) (heap.fits e c s) (λ n q. r.last n (s ∙ ap Some q)) (heap.heads e c s))
+    rw (← r.same) (head_shows (meanings cells order) order c (at (meanings cells order) e) e (length vars) (heap.fits e c s) (λ n q. r.last n (s ∙ ap Some q)) (heap.heads e c s))
 
 -- ---- images
 map_at_more : (ts us : List HeapTerm) (is : List ℕ) → AllBelow (length ts) is → map (at (ts ++ us)) is ≡ map (at ts) is
@@ -452,34 +467,32 @@ homes_below : (cells : List Built) (vars : List ℕ) → ((n i : ℕ) → slice_
 homes_below cells [] h = tt
 homes_below cells (i ∷ vars) h = (h 0 i refl, homes_below cells vars (λ n j e. h (suc n) j e))
 
-module _ (cells : List Built) (vars : List ℕ) (bound : List (Option ℕ)) (order : List Binding) (heap : IsHeap cells vars bound order) where
+module _ (cells : List Built) (vars : List ℕ) (order : List Binding) (heap : IsHeap cells vars order) where
   pub homes_in : AllBelow (length (meanings cells order)) vars
   homes_in = rw (length-meanings cells order) (homes_below cells vars heap.homes)
 
-  pub images_var : map (at (meanings (cells ++ built.Var (length bound) ∷ []) order)) (vars ++ length cells ∷ []) ≡ map (at (meanings cells order)) vars ++ Var (length bound) ∷ []
+  pub images_var : map (at (meanings (cells ++ built.Var (length vars) ∷ []) order)) (vars ++ length cells ∷ []) ≡ map (at (meanings cells order)) vars ++ Var (length vars) ∷ []
   images_var =
       let m = meanings cells order in
-      let x : HeapTerm = Var (length bound) in
-      rw (meanings_var cells vars bound order heap, map-append)
+      let x : HeapTerm = Var (length vars) in
+      rw (meanings_var cells vars order heap, map-append)
       (λ k. map_at_more m (x ∷ []) vars homes_in k ++ get_or_push m x blank (length cells) (length-meanings cells order) k ∷ [])
 
-  pub images_cell : (c : Built) → Fits (length cells) (length bound) c → ((n : ℕ) → c ≡ built.Var n → ⊥) → map (at (meanings (cells ++ c ∷ []) order)) vars ≡ map (at (meanings cells order)) vars
-  images_cell c fits plain = rw (meanings_cell cells vars bound order c heap fits plain) (map_at_more (meanings cells order) (raw_cell (meanings cells order) c ∷ []) vars homes_in)
+  pub images_cell : (c : Built) → Fits (length cells) (length vars) c → ((n : ℕ) → c ≡ built.Var n → ⊥) → map (at (meanings (cells ++ c ∷ []) order)) vars ≡ map (at (meanings cells order)) vars
+  images_cell c fits plain = rw (meanings_cell cells vars order c heap fits plain) (map_at_more (meanings cells order) (raw_cell (meanings cells order) c ∷ []) vars homes_in)
 
 pub empty_meanings : meanings [] [] ≡ []
 unfolding meanings after raws_from
 empty_meanings = refl
 
-pub empty_heap : IsHeap [] [] [] []
+pub empty_heap : IsHeap [] [] []
 empty_heap = record {
   fits = λ i c e. absurd (none-some c e);
   heads = λ i c e. absurd (none-some c e);
   free = λ i v. rw empty_meanings (λ o. absurd o);
   homes = λ n i e. absurd (none-some i e);
-  one_each = refl;
+  single = λ i v e. absurd (none-some (built.Var v) e);
   bindings = λ k b e. absurd (none-some b e);
-  targets = λ v u e. absurd (none-some u e);
-  unbound = λ v e. refl;
   chain = λ v u m e. absurd (none-some u e);
 }
 
@@ -490,21 +503,21 @@ below_at n (x ∷ is) zero a h = a.0
 below_at n (x ∷ is) (suc i) a h = below_at n is i a.1 (omega arith)
 
 -- the arguments of what a cell means
-pub arguments_at : (cells : List Built) (vars : List ℕ) (bound : List (Option ℕ)) (order : List Binding) (heap : IsHeap cells vars bound order) (id e : ℕ) (r : Resolved cells bound order id e) (g : ℕ) (args : List ℕ) →
+pub arguments_at : (cells : List Built) (vars : List ℕ) (order : List Binding) (heap : IsHeap cells vars order) (id e : ℕ) (r : Resolved cells order id e) (g : ℕ) (args : List ℕ) →
     slice_get cells e ≡ Some (built.Compound g args) → arguments (at (meanings cells order) id) ≡ map (at (meanings cells order)) args
-arguments_at cells vars bound order heap id e r g args s =
+arguments_at cells vars order heap id e r g args s =
     ap arguments (sym r.same ∙ heap.heads e (built.Compound g args) s) ∙ arguments-with_arguments g (map (at (meanings cells order)) args)
 
 -- another cell means a term without arguments
-pub no_arguments : (cells : List Built) (vars : List ℕ) (bound : List (Option ℕ)) (order : List Binding) (heap : IsHeap cells vars bound order) (id e : ℕ) (r : Resolved cells bound order id e) (x : Built) →
+pub no_arguments : (cells : List Built) (vars : List ℕ) (order : List Binding) (heap : IsHeap cells vars order) (id e : ℕ) (r : Resolved cells order id e) (x : Built) →
     slice_get cells e ≡ Some x → ((g : ℕ) (args : List ℕ) → x ≡ built.Compound g args → ⊥) → arguments (at (meanings cells order) id) ≡ []
-no_arguments cells vars bound order heap id e r (built.Var n) s other = ap arguments (sym r.same ∙ MatchOption-at_none (at (meanings cells order) e ≡ Var n) (λ u. at (meanings cells order) e ≡ at (meanings cells order) u) (r.last n s) (heap.heads e (built.Var n) s))
-no_arguments cells vars bound order heap id e r (built.Number n) s other = ap arguments (sym r.same ∙ heap.heads e (built.Number n) s)
-no_arguments cells vars bound order heap id e r (built.Name a) s other = ap arguments (sym r.same ∙ heap.heads e (built.Name a) s)
-no_arguments cells vars bound order heap id e r (built.Compound g args) s other = absurd (other g args refl)
+no_arguments cells vars order heap id e r (built.Var n) s other = ap arguments (sym r.same ∙ MatchOption-at_none (at (meanings cells order) e ≡ Var n) (λ u. at (meanings cells order) e ≡ at (meanings cells order) u) (r.last n s) (heap.heads e (built.Var n) s))
+no_arguments cells vars order heap id e r (built.Number n) s other = ap arguments (sym r.same ∙ heap.heads e (built.Number n) s)
+no_arguments cells vars order heap id e r (built.Name a) s other = ap arguments (sym r.same ∙ heap.heads e (built.Name a) s)
+no_arguments cells vars order heap id e r (built.Compound g args) s other = absurd (other g args refl)
 
 -- the term of a variable
-module _ (cells : List Built) (vars : List ℕ) (bound : List (Option ℕ)) (order : List Binding) (heap : IsHeap cells vars bound order) (v i : ℕ) (home : slice_get vars v ≡ Some i) where
+module _ (cells : List Built) (vars : List ℕ) (order : List Binding) (heap : IsHeap cells vars order) (v i : ℕ) (home : slice_get vars v ≡ Some i) where
   pub home_live : i < length (meanings cells order)
   home_live = rw (length-meanings cells order) (heap.homes v i home)
 
@@ -526,21 +539,21 @@ arg_is ts us is i x e lt at_i =
     ap (λ (l : List HeapTerm). slice_get l i) e ∙ slice_get-map (at ts) is i ∙ ap (option_map (at ts)) (slice_get_read is (length is) i x refl lt at_i)
 
 -- a variable that stands in a term is its own image
-pub inside_free : (cells : List Built) (vars : List ℕ) (bound : List (Option ℕ)) (order : List Binding) (heap : IsHeap cells vars bound order) (id v : ℕ) → Occurs v (at (meanings cells order) id) → (v < length (map (at (meanings cells order)) vars)) × (at (map (at (meanings cells order)) vars) v ≡ Var v)
-inside_free cells vars bound order heap id v e =
+pub inside_free : (cells : List Built) (vars : List ℕ) (order : List Binding) (heap : IsHeap cells vars order) (id v : ℕ) → Occurs v (at (meanings cells order) id) → (v < length (map (at (meanings cells order)) vars)) × (at (map (at (meanings cells order)) vars) v ≡ Var v)
+inside_free cells vars order heap id v e =
     let f = heap.free id v e in
-    let w : v < length vars = omega (arith, f.there, heap.one_each) in
+    let w : v < length vars = f.there in
     let c = f.own (get_or vars v 0) (slice_get-get_or vars v 0 w) in (
       omega (arith, length-map vars (at (meanings cells order))),
       get_or-map (at (meanings cells order)) vars v 0 blank w ∙ MatchOption-at_none (at (meanings cells order) (get_or vars v 0) ≡ Var v) (λ u. at (meanings cells order) (get_or vars v 0) ≡ at (meanings cells order) u) f.unbound (heap.heads (get_or vars v 0) (built.Var v) c),
     )
 
 -- and so is one that stands in what a variable means
-pub image_free : (cells : List Built) (vars : List ℕ) (bound : List (Option ℕ)) (order : List Binding) (heap : IsHeap cells vars bound order) (x v : ℕ) → Occurs v (at (map (at (meanings cells order)) vars) x) → (v < length (map (at (meanings cells order)) vars)) × (at (map (at (meanings cells order)) vars) v ≡ Var v)
-image_free cells vars bound order heap x v o = elim (cases_lt x (length vars)) [
-  | inl lt ↦ inside_free cells vars bound order heap (get_or vars x 0) v (subst (Occurs v) (get_or-map (at (meanings cells order)) vars x 0 blank lt) o)
+pub image_free : (cells : List Built) (vars : List ℕ) (order : List Binding) (heap : IsHeap cells vars order) (x v : ℕ) → Occurs v (at (map (at (meanings cells order)) vars) x) → (v < length (map (at (meanings cells order)) vars)) × (at (map (at (meanings cells order)) vars) v ≡ Var v)
+image_free cells vars order heap x v o = elim (cases_lt x (length vars)) [
+  | inl lt ↦ inside_free cells vars order heap (get_or vars x 0) v (subst (Occurs v) (get_or-map (at (meanings cells order)) vars x 0 blank lt) o)
   | inr le ↦ absurd (subst (Occurs v) (get_or_past (map (at (meanings cells order)) vars) x blank (omega (arith, length-map vars (at (meanings cells order))))) o)
 ]
 
-pub var_free : (cells : List Built) (vars : List ℕ) (bound : List (Option ℕ)) (order : List Binding) (heap : IsHeap cells vars bound order) (id v : ℕ) → at (meanings cells order) id ≡ Var v → (v < length (map (at (meanings cells order)) vars)) × (at (map (at (meanings cells order)) vars) v ≡ Var v)
-var_free cells vars bound order heap id v e = inside_free cells vars bound order heap id v (subst (λ (x : HeapTerm). Occurs v x) (sym e) refl)
+pub var_free : (cells : List Built) (vars : List ℕ) (order : List Binding) (heap : IsHeap cells vars order) (id v : ℕ) → at (meanings cells order) id ≡ Var v → (v < length (map (at (meanings cells order)) vars)) × (at (map (at (meanings cells order)) vars) v ≡ Var v)
+var_free cells vars order heap id v e = inside_free cells vars order heap id v (subst (λ (x : HeapTerm). Occurs v x) (sym e) refl)

@@ -4,7 +4,10 @@ pub mod Meanings
 pub mod Kept
 pub mod Cells
 pub mod Reading
+pub mod Notes
+pub mod Learnt
 pub mod Marks
+pub mod Learns
 pub mod Known
 pub mod Named
 pub mod Images

@@ -4,11 +4,10 @@ use Rattle.std.proofs.lemmas.List.{get_or-map, length-map, map-append}
 use Rattle.std.specs.Prelude.{slice_get}
 use Rattle.spec_terms.specs.Term.{Var, apply, single, with_arguments}
 use Rattle.spec_terms.proofs.Substitution.{single_other}
-use Rattle.cq_term.specs.Meaning.{HeapTerm, at, blank, raw_cell, raws_from, after, bind_one, meanings}
+use Rattle.cq_term.specs.Meaning.{Binding, HeapTerm, at, blank, raw_cell, raws_from, after, bind_one, meanings}
 use Rattle.cq_term.specs.Rep.{Fits, AllBelow, left_after}
 use Rattle.cq_term.specs.Built.{Built}
 use Rattle.cq_term.specs.Built as built
-use Rattle.cq_term.specs.declared.lists.Binding.{Binding}
 use Rattle.cq_term.proofs.Arguments.{apply-with_arguments}
 
 pub raws_push : (ts : List HeapTerm) (cs : List Built) (c : Built) → raws_from ts (cs ++ c ∷ []) ≡ raws_from ts cs ++ raw_cell (raws_from ts cs) c ∷ []

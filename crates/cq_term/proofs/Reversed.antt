@@ -22,7 +22,7 @@ reversed_more ids old list new i j x e le is before last =
     ∙ append_assoc old (reverse (drop i ids)) (x ∷ [])
     ∙ ap (λ l. old ++ l) (sym (ap reverse whole ∙ reverse-append (x ∷ []) (drop i ids)))
 
-all_reversed : (P : ℕ → Type 0) (xs : List ℕ) → All P xs → All P (reverse xs)
+pub all_reversed : (P : ℕ → Type 0) (xs : List ℕ) → All P xs → All P (reverse xs)
 all_reversed P [] h = h
 all_reversed P (x ∷ xs) h = All-same P (reverse (x ∷ xs)) (reverse xs ++ x ∷ []) (reverse-append (x ∷ []) xs) (All-push P (reverse xs) x (all_reversed P xs (All-tail P x xs h)) (All-head P x xs h))
 

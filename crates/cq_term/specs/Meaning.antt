@@ -4,11 +4,15 @@ use Rattle.std.specs.Prelude.{ℕ, List, [], ◌∷◌, ◌++◌, map, slice_ind
 use Rattle.spec_terms.specs.Term.{Term, Var, Number, Name, with_arguments, apply, single}
 use Rattle.cq_term.specs.Built.{Built}
 use Rattle.cq_term.specs.Built as built
-use Rattle.cq_term.specs.declared.lists.Binding.{Binding}
 
 -- a term whose names are the numbers of atoms
 abbrev pub HeapTerm : Type 0
 HeapTerm = Term ℕ
+
+-- a variable and the term that it was bound to
+pub record Binding : Type 0 where
+  pub variable : ℕ
+  pub term : ℕ
 
 -- stands past the end of a list
 abbrev pub blank : HeapTerm

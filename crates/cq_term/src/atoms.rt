@@ -26,6 +26,12 @@ impl Model for Atom {
 }
 
 impl Atom {
+    pub(crate) fn numbered(number: usize) -> Atom
+        ensures { result ≡ number }
+    {
+        Atom { number }
+    }
+
     /// The number, for lists by name.
     pub fn index(self) -> usize
         ensures { result ≡ self }

@@ -1,17 +1,20 @@
 // A heap of terms: cells that stay as they were built, and the variables' bindings beside them.
 
-ghost use Rattle.std.specs.Prelude.{List, ℕ, ◌≡◌, ◌<◌, ◌≤◌, ◌^◌, ◌++◌, [], ◌∷◌, map, length, reverse, All, slice_get, Some, IfOk, OnOk, OnErr, IsTrue};
+ghost use Rattle.std.specs.Prelude.{List, ℕ, ◌≡◌, ◌<◌, ◌≤◌, ◌^◌, ◌++◌, [], ◌∷◌, map, length, reverse, All, slice_get, Some, IfOk, OnOk, OnErr, IsTrue, false};
 ghost use Rattle.spec_terms.specs.Term.{Var, Number, Name, Occurs, with_arguments, apply, single};
 ghost use Rattle.spec_numbers.specs.Rational.{int_ℚ};
 ghost use Rattle.cq_term.specs.Meaning.{at};
 ghost use Rattle.cq_term.specs.Ground.{IsGround};
+ghost use Rattle.cq_term.specs.Layout.{AreSorted};
+ghost use Rattle.cq_term.specs.declared.heap.Place.{Place};
 ghost use Rattle.cq_term.specs.Names.{HasNamesOfTerms};
 ghost use Rattle.cq_term.specs.Shown.{view_of, arguments, variables_from, IsUnbound};
 
 use crate::atoms::Atom;
-use crate::lists::{Binding, Cell, Lists, push_reversed, unbind, word};
+use crate::lists::{Cell, Lists, push_reversed, unbind, unlearn, word};
 use crate::names::{Newly, TermId};
 use crate::view::View;
+use crate::walk::Pair;
 use cq_frac::{Frac, VarId};
 use cq_trail::{Mark, Undo};
 use std::alloc::{AllocError, Global};
@@ -25,6 +28,7 @@ struct Place {
     args: usize,
     vars: usize,
     order: usize,
+    learnt: usize,
 }
 
 /// Lists that are done with, for their memory.
@@ -32,12 +36,13 @@ struct Place {
 struct Spare {
     lists: Vec<Vec<TermId>>,
     newly: Option<Newly>,
+    pairs: Option<Vec<Pair>>,
 }
 
 /// Finite terms by number, over variables that can be bound. Each id means one term, read through the bindings.
-/// A term takes a cell of 24 bytes, and a compound 8 more for each argument. `mark` takes constant time, `undo` the
-/// time of the bindings made since, and `forget` leaves nothing of the mark behind. It lends empty lists too, whose memory
-/// was had before.
+/// A term takes a cell of 16 bytes, a compound 8 more for each argument, and a variable 8 more, and 8 again once it is
+/// bound. `mark` takes constant time, `undo` the time of the bindings made and of the terms learnt to be ground since,
+/// and `forget` leaves nothing of the mark behind. It lends empty lists too, whose memory was had before.
 #[derive(Drop)]
 pub struct Heap {
     lists: Lists,
@@ -79,13 +84,14 @@ impl Heap {
                 wide: Vec::new(alloc),
                 args: Vec::new(alloc),
                 vars: Vec::new(alloc),
-                bound: Vec::new(alloc),
                 order: Vec::new(alloc),
+                learnt: Vec::new(alloc),
             },
             marks: Vec::new(alloc),
             spare: Spare {
                 lists: Vec::new(alloc),
                 newly: None,
+                pairs: None,
             },
             alloc,
         }
@@ -155,7 +161,7 @@ impl Heap {
     }
 
     /// A compound with the given name and arguments, at least one. Fails for want of memory, with every term as it was;
-    /// memory for more than `u32::MAX` arguments is never had.
+    /// there is none for a name whose number has more than 32 bits.
     pub fn compound(&mut self, name: Atom, args: &[TermId]) -> Result<TermId, AllocError>
         requires some { 0 < length args.now }
         requires live { All (λ i. i < length self.old.now.terms) args.now }
@@ -166,21 +172,72 @@ impl Heap {
         ensures room { self.old.room ≤ self.new.room }
         ensures err { OnErr result (self.new.now ≡ self.old.now) }
     {
-        let Ok(count) = u32::try_from(args.len()) else {
+        let Ok(name) = u32::try_from(name.index()) else {
             return Err(AllocError);
         };
-        let id = self.lists.cells.len();
         let ground = self.are_ground(args);
+        match u16::try_from(args.len()) {
+            Ok(count) => self.short(ground, count, name, args),
+            Err(_) => self.long(ground, name, args),
+        }
+    }
+
+    /// A compound of few arguments, whether they are known to have no variable.
+    #[inline(always)]
+    fn short(
+        &mut self,
+        ground: bool,
+        count: u16,
+        name: u32,
+        args: &[TermId],
+    ) -> Result<TermId, AllocError>
+        requires count { count ≡ length args.now }
+        requires some { 0 < length args.now }
+        requires live { All (λ i. i < length self.old.now.terms) args.now }
+        requires ground { IsTrue ground → All (λ i. IsGround (at self.old.now.terms i)) args.now }
+        ensures id { IfOk result (λ id. id ≡ length self.old.now.terms) }
+        ensures terms { OnOk result (self.new.now.terms ≡ self.old.now.terms ++ with_arguments name (map (at self.old.now.terms) args.now) ∷ []) }
+        ensures images { OnOk result (self.new.now.images ≡ self.old.now.images) }
+        ensures saved { self.new.saved ≡ self.old.saved }
+        ensures room { self.old.room ≤ self.new.room }
+        ensures err { OnErr result (self.new.now ≡ self.old.now) }
+    {
+        let id = self.lists.cells.len();
         let start = self.lists.args.len();
         self.lists.cells.reserve(1)?;
         self.lists.args.extend_from_slice(args)?;
-        let cell = Cell::Compound {
+        self.lists.cells.push_reserved(Cell::Compound {
             ground,
             count,
             name,
             start,
-        };
-        self.lists.cells.push(cell).unwrap();
+        });
+        Ok(TermId::new(id))
+    }
+
+    /// A compound of any number of arguments, which it notes in front of them.
+    fn long(&mut self, ground: bool, name: u32, args: &[TermId]) -> Result<TermId, AllocError>
+        requires some { 0 < length args.now }
+        requires live { All (λ i. i < length self.old.now.terms) args.now }
+        requires ground { IsTrue ground → All (λ i. IsGround (at self.old.now.terms i)) args.now }
+        ensures id { IfOk result (λ id. id ≡ length self.old.now.terms) }
+        ensures terms { OnOk result (self.new.now.terms ≡ self.old.now.terms ++ with_arguments name (map (at self.old.now.terms) args.now) ∷ []) }
+        ensures images { OnOk result (self.new.now.images ≡ self.old.now.images) }
+        ensures saved { self.new.saved ≡ self.old.saved }
+        ensures room { self.old.room ≤ self.new.room }
+        ensures err { OnErr result (self.new.now ≡ self.old.now) }
+    {
+        let id = self.lists.cells.len();
+        let start = self.lists.args.len();
+        self.lists.cells.reserve(1)?;
+        self.lists.args.reserve(1 + args.len())?;
+        self.lists.args.push_reserved(TermId::new(args.len()));
+        self.lists.args.extend_from_slice(args).unwrap();
+        self.lists.cells.push_reserved(Cell::Long {
+            ground,
+            name,
+            start,
+        });
         Ok(TermId::new(id))
     }
 
@@ -195,22 +252,52 @@ impl Heap {
         ensures room { self.old.room ≤ self.new.room }
         ensures err { OnErr result (self.new.now ≡ self.old.now) }
     {
-        let Ok(count) = u32::try_from(args.len()) else {
+        let Ok(name) = u32::try_from(name.index()) else {
             return Err(AllocError);
         };
-        let id = self.lists.cells.len();
         let ground = self.are_ground(args);
+        match u16::try_from(args.len()) {
+            Ok(count) => self.short_reversed(ground, count, name, args),
+            Err(_) => {
+                let mut list = Vec::new(self.alloc);
+                list.reserve(args.len())?;
+                push_reversed(&mut list, args);
+                self.long(ground, name, &list)
+            }
+        }
+    }
+
+    /// A compound of few arguments, of which the last stands first.
+    #[inline(always)]
+    fn short_reversed(
+        &mut self,
+        ground: bool,
+        count: u16,
+        name: u32,
+        args: &[TermId],
+    ) -> Result<TermId, AllocError>
+        requires count { count ≡ length args.now }
+        requires some { 0 < length args.now }
+        requires live { All (λ i. i < length self.old.now.terms) args.now }
+        requires ground { IsTrue ground → All (λ i. IsGround (at self.old.now.terms i)) args.now }
+        ensures id { IfOk result (λ id. id ≡ length self.old.now.terms) }
+        ensures terms { OnOk result (self.new.now.terms ≡ self.old.now.terms ++ with_arguments name (map (at self.old.now.terms) (reverse args.now)) ∷ []) }
+        ensures images { OnOk result (self.new.now.images ≡ self.old.now.images) }
+        ensures saved { self.new.saved ≡ self.old.saved }
+        ensures room { self.old.room ≤ self.new.room }
+        ensures err { OnErr result (self.new.now ≡ self.old.now) }
+    {
+        let id = self.lists.cells.len();
         let start = self.lists.args.len();
         self.lists.cells.reserve(1)?;
         self.lists.args.reserve(args.len())?;
         push_reversed(&mut self.lists.args, args);
-        let cell = Cell::Compound {
+        self.lists.cells.push_reserved(Cell::Compound {
             ground,
             count,
             name,
             start,
-        };
-        self.lists.cells.push_reserved(cell);
+        });
         Ok(TermId::new(id))
     }
 
@@ -224,12 +311,10 @@ impl Heap {
         ensures err { OnErr result (self.new.now ≡ self.old.now) }
     {
         let id = self.lists.cells.len();
-        let variable = self.lists.bound.len();
+        let variable = self.lists.vars.len();
         self.lists.vars.reserve(1)?;
-        self.lists.bound.reserve(1)?;
         self.lists.cells.push(Cell::Var(variable))?;
         self.lists.vars.push(TermId::new(id)).unwrap();
-        self.lists.bound.push(None).unwrap();
         Ok(TermId::new(id))
     }
 
@@ -260,9 +345,7 @@ impl Heap {
         ensures room { self.old.room ≤ self.new.room }
         ensures err { OnErr result (self.new.now ≡ self.old.now) }
     {
-        self.lists.vars.reserve(1)?;
-        self.lists.bound.push(None)?;
-        self.lists.vars.push_reserved(term);
+        self.lists.vars.push(term)?;
         Ok(())
     }
 
@@ -288,8 +371,8 @@ impl Heap {
     {
         let variable = variable.0;
         let term = self.lists.resolve(term);
-        self.lists.order.push(Binding { variable, term })?;
-        self.lists.bound[variable] = Some(term);
+        self.lists.order.push(self.lists.vars[variable])?;
+        self.lists.vars[variable] = term;
         Ok(())
     }
 
@@ -312,12 +395,18 @@ impl Heap {
             Cell::Whole(number) => View::Number(Frac::from(number)),
             Cell::Wide(place) => View::Number(self.lists.wide[place]),
             Cell::Name(name) => View::Name(name),
-            Cell::Compound { name, count, .. } => View::Compound(name, count as usize),
+            Cell::Compound { name, count, .. } => {
+                View::Compound(Atom::numbered(name as usize), count as usize)
+            }
+            Cell::Long { name, start, .. } => {
+                let count = self.lists.args[start];
+                View::Compound(Atom::numbered(name as usize), count.index())
+            }
         }
     }
 
-    /// Whether a term is known to have no variable: it was built of numbers and names alone. A term whose variables
-    /// were all bound to such terms may still answer false.
+    /// Whether a term is known to have no variable: it was built of numbers and names alone, or `learn_ground` was told.
+    /// A term whose variables were all bound to such terms may still answer false.
     pub fn is_ground(&self, id: TermId) -> bool
         requires { id < length self.now.now.terms }
         ensures { IsTrue result → IsGround (at self.now.now.terms id) }
@@ -327,7 +416,31 @@ impl Heap {
             Cell::Var(_) => false,
             Cell::Whole(_) | Cell::Wide(_) | Cell::Name(_) => true,
             Cell::Compound { ground, .. } => ground,
+            Cell::Long { ground, .. } => ground,
         }
+    }
+
+    /// Notes that terms have no variable, so that `is_ground` says so until the heap is as it was at a mark before. Where
+    /// there is no memory for a note that an `undo` wants, a term stays as it is.
+    pub fn learn_ground(&mut self, walked: &[TermId])
+        requires live { All (λ i. i < length self.old.now.terms) walked.now }
+        requires ground { All (λ i. IsGround (at self.old.now.terms i)) walked.now }
+        ensures { self.new ≡ self.old }
+    {
+        for id in walked {
+            self.learn(*id);
+        }
+    }
+
+    /// The same of one term. A cell that was built behind the newest mark needs no note, since each `undo` cuts it off.
+    fn learn(&mut self, id: TermId)
+        requires live { id < length self.old.now.terms }
+        requires ground { IsGround (at self.old.now.terms id) }
+        ensures { self.new ≡ self.old }
+    {
+        let end = self.lists.resolve(id);
+        let is_noted = is_marked(&self.marks, end);
+        self.lists.learn(end, is_noted);
     }
 
     fn are_ground(&self, ids: &[TermId]) -> bool
@@ -349,11 +462,8 @@ impl Heap {
         ensures live { result < length self.now.now.terms }
         ensures arg { slice_get (arguments (at self.now.now.terms id)) i ≡ Some (at self.now.now.terms result) }
     {
-        let end = self.lists.resolve(id);
-        match self.lists.cells[end.index()] {
-            Cell::Compound { start, .. } => self.lists.args[start + i],
-            _ => unreachable!(),
-        }
+        let args = self.args(id);
+        args[i]
     }
 
     /// The arguments of a compound, in order, and none of another term.
@@ -364,9 +474,10 @@ impl Heap {
     {
         let end = self.lists.resolve(id);
         match self.lists.cells[end.index()] {
-            Cell::Compound { count, start, .. } => {
-                let stop = start + count as usize;
-                &self.lists.args[start..stop]
+            Cell::Compound { count, start, .. } => self.lists.part(start, count as usize),
+            Cell::Long { start, .. } => {
+                let count = self.lists.args[start];
+                self.lists.part(start + 1, count.index())
             }
             _ => &[],
         }
@@ -445,6 +556,41 @@ impl Heap {
     {
         self.spare.newly = Some(newly);
     }
+
+    /// An empty list of pairs, with the memory of the one that was kept, if there is one.
+    #[inline(always)]
+    pub fn spare_pairs(&mut self) -> Vec<Pair>
+        ensures empty { result.items ≡ [] }
+        ensures same { self.new ≡ self.old }
+    {
+        match self.spare.pairs.take() {
+            Some(mut pairs) => {
+                pairs.clear();
+                pairs
+            }
+            None => Vec::new(self.alloc),
+        }
+    }
+
+    /// Keeps a list of pairs that is done with, for its memory, in place of the one that was kept.
+    #[inline(always)]
+    pub fn keep_pairs(&mut self, pairs: Vec<Pair>)
+        ensures { self.new ≡ self.old }
+    {
+        self.spare.pairs = Some(pairs);
+    }
+}
+
+/// Whether a cell was there at a mark: no mark has more cells than the newest one.
+fn is_marked(marks: &[Place], cell: TermId) -> bool
+    requires { AreSorted marks.now }
+    ensures { result ≡ false → (k : ℕ) (p : Place) → slice_get marks.now k ≡ Some p → p.cells ≤ cell }
+{
+    let count = marks.len();
+    if count == 0 {
+        return false;
+    }
+    cell.index() < marks[count - 1].cells
 }
 
 impl Undo for Heap {
@@ -467,6 +613,7 @@ impl Undo for Heap {
             args: self.lists.args.len(),
             vars: self.lists.vars.len(),
             order: self.lists.order.len(),
+            learnt: self.lists.learnt.len(),
         })?;
         Ok(Mark { number })
     }
@@ -475,8 +622,8 @@ impl Undo for Heap {
     fn undo(&mut self, m: Mark) {
         let place = self.marks[m.number];
         let lists = &mut self.lists;
-        unbind(&mut lists.bound, &mut lists.order, place.order);
-        lists.bound.truncate(place.vars);
+        unbind(&lists.cells, &mut lists.vars, &mut lists.order, place.order);
+        unlearn(&mut lists.cells, &mut lists.learnt, place.learnt);
         lists.vars.truncate(place.vars);
         lists.args.truncate(place.args);
         lists.wide.truncate(place.wide);

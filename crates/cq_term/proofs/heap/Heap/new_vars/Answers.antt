@@ -4,7 +4,9 @@ use Rattle.std.specs.declared.result.Result.{Result}
 use Rattle.std.specs.declared.alloc.AllocError.{AllocError}
 use Rattle.std.proofs.lemmas.List.{length-map}
 use Rattle.cq_term.specs.Meaning.{at}
-use Rattle.cq_term.specs.Layout.{Contents, IsMarked, contents, meant, terms_of, terms_at}
+use Rattle.cq_term.specs.Layout.{Contents, IsMarked, contents, homes, meant, terms_of, terms_at}
+use Rattle.cq_trail.proofs.Restore.{length-restore}
+use Rattle.cq_term.proofs.Notes.{notes}
 use Rattle.cq_term.proofs.Variables.{known_vars, marked_then, saved_then, terms_then, images_then}
 use Rattle.cq_term.proofs.heap.Heap.new_vars.Goals as goal
 
@@ -30,7 +32,7 @@ returns-clause-first c = rw (← c.self.view_is) (c.in_ok-first.ensures.first �
 pub returns-clause-few : goal.returns-clause-few
 returns-clause-few c =
     let vars = c.add_vars.new.self.vars in
-    omega (arith, length-map vars.items (at (meant (contents c.add_vars.new.self))), vars.ok.0, vars.ok.1, vars.small)
+    omega (arith, length-map (homes (contents c.add_vars.new.self)) (at (meant (contents c.add_vars.new.self))), length-restore (notes c.add_vars.new.self.cells.items c.add_vars.new.self.order.items) vars.items, vars.ok.0, vars.ok.1, vars.small)
 
 pub returns-clause-terms : goal.returns-clause-terms
 returns-clause-terms c = rw (← c.self.view_is) (terms_then (contents c.self.inside.lists) c.self.inside.marks.items c.self.invariant (contents c.add_vars.new.self) c.args.count c.in_ok-first.ensures.ok)

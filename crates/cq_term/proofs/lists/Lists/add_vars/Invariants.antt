@@ -7,5 +7,4 @@ invariant-loop-made l = record {
   contents : contents l.self ≡ with_vars l._made (contents l.fn.self);
   cells : vec_len l.self.cells + (l.count - l._made) ≤ vec_capacity l.self.cells;
   vars : vec_len l.self.vars + (l.count - l._made) ≤ vec_capacity l.self.vars;
-  bound : vec_len l.self.bound + (l.count - l._made) ≤ vec_capacity l.self.bound;
 }
