@@ -9,6 +9,7 @@ pub mod Renamed
 pub mod Steps
 pub mod Unbound
 pub mod Visited
+pub mod Walked
 pub mod Ahead
 pub mod Sameness
 pub mod Ranks

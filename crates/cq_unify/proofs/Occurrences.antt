@@ -14,6 +14,7 @@ use Rattle.cq_term.proofs.Arguments.{absent_with_arguments, with_arguments-list_
 use Rattle.cq_term.proofs.Kept.{arg_is}
 use Rattle.cq_frac.specs.declared.VarId.{VarId}
 use Rattle.cq_term.specs.Arguments.{PushesArguments}
+use Rattle.cq_term.specs.Visits.{Visits, VisitsArguments}
 use Rattle.cq_term.proofs.WalkArguments.{terms_pop, terms_push}
 use Rattle.cq_unify.specs.Work.{HasInnerCompound}
 
@@ -71,7 +72,7 @@ module _ (ts : List HeapTerm) (v : ℕ) (t : HeapTerm) (old work : List ℕ) (id
   popped : map (at ts) old ≡ map (at ts) work ++ at ts id ∷ []
   popped = terms_pop ts old work id is
 
-  among_pop : StandsAmong v (map (at ts) old) ↔ (StandsAmong v (map (at ts) work) ⊎ Occurs v (at ts id))
+  pub among_pop : StandsAmong v (map (at ts) old) ↔ (StandsAmong v (map (at ts) work) ⊎ Occurs v (at ts id))
   among_pop =
       let k = among-append v (map (at ts) work) (at ts id ∷ []) in (
         λ h. elim (k.0 (subst (StandsAmong v) popped h)) [
@@ -108,6 +109,16 @@ module _ (ts : List HeapTerm) (v : ℕ) (t : HeapTerm) (old work : List ℕ) (id
               λ h. looks.same.1 (among_pop.1 (elim (k.0 (subst (StandsAmong v) pushed h)) [ inl a ↦ inl a | inr b ↦ inr (r.0 b) ])),
             );
           }
+
+-- what stands among the work after a compound was visited
+pub among_visit : (ts : List HeapTerm) (v : ℕ) (t : HeapTerm) (old work : List ℕ) (id : ℕ) → old ≡ work ++ id ∷ [] → (f n : ℕ) → view_of (at ts id) ≡ view.Compound f n → (before after : Visits) (new : List ℕ) → VisitsArguments ts id before after work new →
+    StandsAmong v (map (at ts) new) → StandsAmong v (map (at ts) work) ⊎ Occurs v (at ts id)
+among_visit ts v t old work id is f n shown before after new visits h = elim visits [
+  | inl k ↦ inl (subst (λ (l : List ℕ). StandsAmong v (map (at ts) l)) k.2 h)
+  | inr k ↦
+      let both = (among-append v (map (at ts) work) (reverse (arguments (at ts id)))).0 (subst (StandsAmong v) (terms_push ts (at ts id) work new k.1) h) in
+      elim both [ inl a ↦ inl a | inr b ↦ inr ((among_arguments v (at ts id) f n shown).0 b) ]
+]
 
 -- ---- a variable in a term that shows its head
 pub not_another : (t : HeapTerm) (v : ℕ) (w : VarId) → view_of t ≡ view.Var w → w.0 ≢ v → Occurs v t → ⊥

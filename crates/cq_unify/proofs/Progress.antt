@@ -12,6 +12,7 @@ use Rattle.spec_terms.proofs.Substitution.{apply-identity, apply-followed_by, ap
 use Rattle.cq_frac.specs.declared.VarId.{VarId}
 use Rattle.cq_term.specs.Meaning.{HeapTerm, at}
 use Rattle.cq_term.specs.HeapValue.{Terms, HeapValue}
+use Rattle.cq_term.specs.Names.{KeepsNames}
 use Rattle.cq_term.specs.Shown.{IsUnbound}
 use Rattle.cq_unify.specs.Unified.{Binding, in_turn, variables_of, equation, IsNewlyBound, Unified}
 use Rattle.cq_term.specs.Pairs.{IsLive, equations}
@@ -190,6 +191,8 @@ pub record Solving (old now : HeapValue) (a b : ℕ) (before after : List VarId)
   pub bindings : List Binding
   pub progress : Progress old.now now.now (equation old.now a b) bindings work
   pub told : after ≡ before ++ variables_of bindings
+  pub live : length now.now.terms ≡ length old.now.terms
+  pub names : (n : ℕ) → KeepsNames n old.now now.now
   pub saved : now.saved ≡ old.saved
   pub room : old.room ≤ now.room
 
@@ -198,6 +201,8 @@ solving_start heap a b told work e live_a live_b = record {
   bindings = [];
   progress = progress_start heap.now a b work e live_a live_b;
   told = sym (append-nil told);
+  live = refl;
+  names = λ n all. all;
   saved = refl;
   room = omega arith;
 }
@@ -206,15 +211,17 @@ same_terms : (x y : Terms) → x.terms ≡ y.terms → x.images ≡ y.images →
 same_terms x y e d = λ i. record { terms = e i; images = d i }
 
 module _ (old now : HeapValue) (a b : ℕ) (before told : List VarId) (work rest : List Pair) (h : Solving old now a b before told work) where
-  pub solving_bind : (v : VarId) (t : ℕ) (next : HeapValue) (told_next : List VarId) → Narrowed now.now work rest (step.Bind v t) → IsBound now.now next.now v t → next.saved ≡ now.saved → now.room ≤ next.room →
+  pub solving_bind : (v : VarId) (t : ℕ) (next : HeapValue) (told_next : List VarId) → Narrowed now.now work rest (step.Bind v t) → IsBound now.now next.now v t → ((n : ℕ) → KeepsNames n now.now next.now) → next.saved ≡ now.saved → now.room ≤ next.room →
       told_next ≡ told ++ v ∷ [] → Solving old next a b before told_next rest
-  solving_bind v t next told_next narrowed bound saved room pushed =
+  solving_bind v t next told_next narrowed bound names saved room pushed =
       let made : Binding = record { variable = v; term = at now.now.terms t } in record {
         bindings = h.bindings ++ made ∷ [];
         progress = subst (λ (x : Terms). Progress old.now x (equation old.now a b) (h.bindings ++ made ∷ []) rest)
             (sym (same_terms next.now (bound_terms old.now now.now (equation old.now a b) h.bindings work rest h.progress v t narrowed bound.apart) bound.terms bound.images))
             (progress_bind old.now now.now (equation old.now a b) h.bindings work rest h.progress v t narrowed bound.apart);
         told = pushed ∙ ap (λ vs. vs ++ v ∷ []) h.told ∙ append_assoc before (variables_of h.bindings) (v ∷ []) ∙ ap (λ vs. before ++ vs) (sym (map-append (λ (x : Binding). x.variable) h.bindings (made ∷ [])));
+        live = ap length bound.terms ∙ length-map now.now.terms (apply (single v.0 (at now.now.terms t))) ∙ h.live;
+        names = λ n all. names n (h.names n all);
         saved = saved ∙ h.saved;
         room = omega (arith, h.room);
       }
@@ -244,10 +251,10 @@ module _ (heap : HeapValue) (a b : ℕ) (live_a : a < length heap.now.terms) (li
     narrowed_all : Narrowed heap.now both [] (step.Bind v t)
     narrowed_all = (binds.0, (λ k d lt. absurd (omega arith)), λ s. (λ e. ((binds.1 s).0 e.0, tt), λ e. ((binds.1 s).1 e.0, tt)))
 
-    pub bound_unified : (next : HeapValue) (told_next : List VarId) → IsBound heap.now next.now v t → next.saved ≡ heap.saved → heap.room ≤ next.room → told_next ≡ told ++ v ∷ [] →
+    pub bound_unified : (next : HeapValue) (told_next : List VarId) → IsBound heap.now next.now v t → ((n : ℕ) → KeepsNames n heap.now next.now) → next.saved ≡ heap.saved → heap.room ≤ next.room → told_next ≡ told ++ v ∷ [] →
         (more : List VarId) × (told_next ≡ told ++ more) × Unified heap.now next.now a b more
-    bound_unified next told_next bound saved room pushed =
-        solving_done heap next a b told told_next [] [] (solving_bind heap heap a b told told both [] started v t next told_next narrowed_all bound saved room pushed) (λ s. tt)
+    bound_unified next told_next bound names saved room pushed =
+        solving_done heap next a b told told_next [] [] (solving_bind heap heap a b told told both [] started v t next told_next narrowed_all bound names saved room pushed) (λ s. tt)
 
     pub inside_unified : Occurs v.0 (at heap.now.terms t) → HasNoUnifier (equation heap.now a b)
     inside_unified inside = solving_occurs heap heap a b told told both [] started v t narrowed_all inside

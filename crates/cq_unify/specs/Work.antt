@@ -9,6 +9,9 @@ use Rattle.cq_term.specs.Shown.{view_of, arguments, IsUnbound}
 use Rattle.cq_term.specs.declared.view.View.TheVariants as view
 use Rattle.cq_term.specs.Pairs.{IsLive, equations, HaveSameFunctor}
 use Rattle.cq_term.specs.declared.walk.pairs.Pair.{Pair}
+use Rattle.cq_term.specs.Ground.{IsGround}
+use Rattle.cq_unify.specs.declared.occurs.Met.{Met}
+use Rattle.cq_unify.specs.declared.occurs.Met.TheVariants as met
 use Rattle.cq_unify.specs.declared.pairs.Demand.{Demand}
 use Rattle.cq_unify.specs.declared.pairs.Demand.TheVariants as demand
 use Rattle.cq_unify.specs.declared.pairs.Step.{Step}
@@ -35,6 +38,12 @@ pub record HasInnerCompound (t : HeapTerm) : Type 0 where
   pub name : ℕ
   pub arity : ℕ
   pub shown : view_of argument ≡ view.Compound name arity
+
+-- what a walk over a term has met, which looked for a variable and went into these compounds
+abbrev pub Meets : List HeapTerm → ℕ → ℕ → List ℕ → Met → Type 0
+Meets ts v id walked met.Sought = Occurs v (at ts id)
+Meets ts v id walked met.Another = Occurs v (at ts id) → ⊥
+Meets ts v id walked met.Nothing = (Occurs v (at ts id) → ⊥) × All (λ i. i < length ts) walked × All (λ i. IsGround (at ts i)) walked
 
 -- the substitution makes the two equal
 abbrev pub Joins : Subst ℕ → Terms → ℕ → ℕ → Type 0

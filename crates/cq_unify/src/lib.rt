@@ -9,5 +9,5 @@ mod unification;
 mod variables;
 
 pub use copies::copy;
-pub use unification::unify;
+pub use unification::{unify, unify_unmarked};
 pub use variables::vars_of;

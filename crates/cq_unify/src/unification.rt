@@ -20,7 +20,8 @@ use std::alloc::AllocError;
 /// Makes two terms equal by binding variables, or says that nothing does. Each variable is bound to a term in which
 /// it doesn't stand, and of two variables the younger to the older. The variables that get bound are told to `newly`
 /// in the order of their bindings. (Robinson 1965, with bindings in place of substituted terms.) Only two compounds,
-/// and a compound inside one that a variable is to become, take memory beside that for the bindings.
+/// and a compound inside one that a variable is to become, take memory beside that for the bindings: in lists that the
+/// heap lends, and past sixty-four compounds of one term in a set.
 #[inline(always)]
 pub fn unify(heap: &mut Heap, newly: &mut Newly, a: TermId, b: TermId) -> Result<bool, AllocError>
     requires a { a < length heap.old.now.terms }
@@ -66,7 +67,7 @@ fn unify_or_undo(
     heap.reserve(1)?;
     let start = heap.mark().unwrap();
     let told = newly.as_slice().len();
-    let outcome = solve(heap, newly, a, b);
+    let outcome = unify_pairs(heap, newly, a, b);
     if let Ok(true) = outcome {
         heap.forget(start);
     } else {
@@ -76,19 +77,73 @@ fn unify_or_undo(
     outcome
 }
 
-/// The same, but for what was bound and told before a clash, or before memory ran out.
-fn solve(heap: &mut Heap, newly: &mut Newly, a: TermId, b: TermId) -> Result<bool, AllocError>
+/// The same as `unify` for a caller that has a mark of its own: where the terms are not made equal, what was bound and told
+/// before a clash, or before memory ran out, stays.
+#[inline(always)]
+pub fn unify_unmarked(
+    heap: &mut Heap,
+    newly: &mut Newly,
+    a: TermId,
+    b: TermId,
+) -> Result<bool, AllocError>
     requires a { a < length heap.old.now.terms }
     requires b { b < length heap.old.now.terms }
     ensures unified { result ≡ Ok true → ((more : List VarId) × (newly.new ≡ newly.old ++ more) × Unified heap.old.now heap.new.now a b more) }
     ensures none { result ≡ Ok false → HasNoUnifier (equation heap.old.now a b) }
     ensures told { (more : List VarId) × (newly.new ≡ newly.old ++ more) }
+    ensures live { length heap.new.now.terms ≡ length heap.old.now.terms }
+    ensures names { (n : ℕ) → KeepsNames n heap.old.now heap.new.now }
     ensures saved { heap.new.saved ≡ heap.old.saved }
     ensures room { heap.old.room ≤ heap.new.room }
 {
-    let mut work = vec![in heap.alloc(); Pair { left: a, right: b }]?;
+    match demand_of(heap, a, b) {
+        Demand::Same => Ok(true),
+        Demand::Clash => Ok(false),
+        Demand::Bind(variable, term) => bind_apart(heap, newly, variable, term),
+        Demand::Arguments(_) => unify_pairs(heap, newly, a, b),
+    }
+}
+
+/// The same by pairs of terms, on a list that the heap lends.
+fn unify_pairs(heap: &mut Heap, newly: &mut Newly, a: TermId, b: TermId) -> Result<bool, AllocError>
+    requires a { a < length heap.old.now.terms }
+    requires b { b < length heap.old.now.terms }
+    ensures unified { result ≡ Ok true → ((more : List VarId) × (newly.new ≡ newly.old ++ more) × Unified heap.old.now heap.new.now a b more) }
+    ensures none { result ≡ Ok false → HasNoUnifier (equation heap.old.now a b) }
+    ensures told { (more : List VarId) × (newly.new ≡ newly.old ++ more) }
+    ensures live { length heap.new.now.terms ≡ length heap.old.now.terms }
+    ensures names { (n : ℕ) → KeepsNames n heap.old.now heap.new.now }
+    ensures saved { heap.new.saved ≡ heap.old.saved }
+    ensures room { heap.old.room ≤ heap.new.room }
+{
+    let mut work = heap.spare_pairs();
+    let outcome = solve(heap, newly, a, b, &mut work);
+    heap.keep_pairs(work);
+    outcome
+}
+
+/// The same with a list for the pairs.
+fn solve(
+    heap: &mut Heap,
+    newly: &mut Newly,
+    a: TermId,
+    b: TermId,
+    work: &mut Vec<Pair>,
+) -> Result<bool, AllocError>
+    requires a { a < length heap.old.now.terms }
+    requires b { b < length heap.old.now.terms }
+    requires work { work.old.items ≡ [] }
+    ensures unified { result ≡ Ok true → ((more : List VarId) × (newly.new ≡ newly.old ++ more) × Unified heap.old.now heap.new.now a b more) }
+    ensures none { result ≡ Ok false → HasNoUnifier (equation heap.old.now a b) }
+    ensures told { (more : List VarId) × (newly.new ≡ newly.old ++ more) }
+    ensures live { length heap.new.now.terms ≡ length heap.old.now.terms }
+    ensures names { (n : ℕ) → KeepsNames n heap.old.now heap.new.now }
+    ensures saved { heap.new.saved ≡ heap.old.saved }
+    ensures room { heap.old.room ≤ heap.new.room }
+{
+    work.push(Pair { left: a, right: b })?;
     'bindings: loop {
-        match pairs::next(heap, &mut work)? {
+        match pairs::next(heap, work)? {
             Step::Done => return Ok(true),
             Step::Clash => return Ok(false),
             Step::Bind(variable, term) => {
