@@ -5,12 +5,9 @@ pub mod Named
 pub mod Occurrences
 pub mod Places
 pub mod Progress
-pub mod Renamed
-pub mod Steps
 pub mod Unbound
 pub mod Visited
 pub mod Walked
 pub mod Ahead
-pub mod Sameness
 pub mod Ranks
 pub mod Matches

@@ -1,5 +1,4 @@
 pub mod Copied
-pub mod Copying
 pub mod Listing
 pub mod Unified
 pub mod Work

@@ -24,7 +24,7 @@ pub fn vars_of(heap: &Heap, term: TermId) -> Result<Vec<VarId>, AllocError>
 }
 
 /// The same as a set, in which a variable is looked up in constant time.
-pub(crate) fn variables(heap: &Heap, term: TermId) -> Result<IndexSet<VarId>, AllocError>
+fn variables(heap: &Heap, term: TermId) -> Result<IndexSet<VarId>, AllocError>
     requires { term < length heap.now.now.terms }
     ensures variables { IfOk result (λ found. numbers_of found.keys ≡ variables_of_term (at heap.now.now.terms term)) }
     ensures unbound { IfOk result (λ found. All (λ v. IsUnbound heap.now.now.images v.0) found.keys) }

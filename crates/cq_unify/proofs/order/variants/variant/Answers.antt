@@ -1,4 +1,4 @@
-use Rattle.std.proofs.Common.{◌≡◌, ap, sym, ◌∙◌, refl, eqb-true}
+use Rattle.std.proofs.Common.{ap, sym, ◌∙◌, refl, eqb-true}
 use Rattle.cq_term.specs.Meaning.{at}
 use Rattle.cq_unify.proofs.Matches.{itself_variant, unlike_variants, variables_variant}
 use Rattle.cq_unify.proofs.order.variants.variant.Goals as goal
