@@ -1,7 +1,8 @@
 -- Changes of the list of indexes.
-use Rattle.std.proofs.Common.{◌≡◌, ℕ, true, List, set, Option, Some, None, Result, Ok, Err, OnOk, sym, subst, ◌∙◌, ◌⊎◌, inl, inr, length-set}
+use Rattle.std.proofs.Common.{◌≡◌, ℕ, true, List, [], ◌∷◌, ◌++◌, set, Option, Some, None, Result, Ok, Err, OnOk, sym, subst, ◌∙◌, ◌⊎◌, inl, inr, length-set}
 use Rattle.std.specs.Prelude.{slice_get, is_ok}
 use Rattle.std.proofs.lemmas.Option.{none-some, same_Some}
+use Rattle.spec_numbers.proofs.Places.{get_push}
 use Rattle.cq_clauses.specs.declared.index.Index.{Index}
 use Rattle.cq_clauses.specs.declared.key.Key.{Key}
 use Rattle.cq_clauses.specs.declared.list.End.{End}
@@ -36,4 +37,11 @@ pub put_written : (old xs : List (Option Index)) (procedure : ℕ) (index : Inde
 put_written old xs procedure index kept q i got = elim (got_either xs procedure (Some index) q (Some i) got) [
   | inl here ↦ inr (here.0, sym (same_Some index i here.1))
   | inr there ↦ inl (kept q i there)
+]
+
+pub put_further : (old xs after : List (Option Index)) → after ≡ xs ++ None ∷ [] → ((q : ℕ) (i : Index) → slice_get xs q ≡ Some (Some i) → slice_get old q ≡ Some (Some i))
+    → (q : ℕ) (i : Index) → slice_get after q ≡ Some (Some i) → slice_get old q ≡ Some (Some i)
+put_further old xs after pushed kept q i got = elim (get_push xs None q (Some i) (subst (λ (ys : List (Option Index)). slice_get ys q ≡ Some (Some i)) pushed got)) [
+  | inl was ↦ kept q i was
+  | inr last ↦ absurd (none-some i last.1)
 ]

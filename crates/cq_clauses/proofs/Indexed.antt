@@ -2,7 +2,7 @@
 use Rattle.std.proofs.Common.{◌≡◌, ℕ, ◌+◌, ◌-◌, ◌<◌, ◌≤◌, ◌^◌, Bool, true, false, cond, List, [], ◌∷◌, ◌++◌, length, min, Option, Some, None, refl, sym, ap, ap₂, subst, ◌∙◌, arith, length-append}
 use Rattle.std.specs.Prelude.{slice_get, is_none, unwrap_or}
 use Rattle.std.proofs.lemmas.List.{append-nil}
-use Rattle.indexmap.specs.IndexMap.{IndexMap, get}
+use Rattle.std.specs.HashMap.{HashMap, get}
 use Rattle.cq_clauses.specs.declared.index.Index.{Index}
 use Rattle.cq_clauses.specs.declared.key.Key.{Key}
 use Rattle.cq_clauses.specs.declared.list.End.{End}
@@ -58,7 +58,7 @@ noted_back test c n x xs places next is =
     by false = sym (append-nil places)
 
 -- a list taken out, and put back with one more number
-module _ {S : Type 0} (old mid new : IndexMap Key (List ℕ) S) (key : Key) (end : End) (number : ℕ) (places : List ℕ)
+module _ {S : Type 0} (old mid new : HashMap Key (List ℕ) S) (key : Key) (end : End) (number : ℕ) (places : List ℕ)
     (removed : (k : Key) → get same_key mid k ≡ cond (same_key key k) None (get same_key old k))
     (put : (k : Key) → get same_key new k ≡ cond (same_key key k) (Some places) (get same_key mid k))
     (is : places ≡ added end number (unwrap_or (get same_key old key) [])) where

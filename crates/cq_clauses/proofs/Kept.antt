@@ -1,11 +1,9 @@
 -- What each change of the procedures keeps.
-use Rattle.std.proofs.Common.{◌≡◌, ℕ, zero, suc, ◌+◌, ◌-◌, ◌<◌, Bool, false, List, [], ◌∷◌, ◌++◌, length, map, set, get_or, position, Option, Some, None, refl, sym, ap, ap₂, subst, ◌∙◌, inl, inr, arith, if◌then◌else◌}
+use Rattle.std.proofs.Common.{◌≡◌, ℕ, zero, suc, ◌+◌, ◌-◌, ◌<◌, Bool, false, List, [], ◌∷◌, ◌++◌, length, map, set, get_or, position, Option, Some, None, refl, sym, ap, ap₂, subst, ◌∙◌, inl, inr, arith}
 use Rattle.std.specs.Prelude.{slice_get}
 use Rattle.std.specs.List.{list_any}
 use Rattle.std.specs.Option.{option_map, option_map_or}
-use Rattle.std.proofs.lemmas.List.{map-append}
 use Rattle.std.proofs.lemmas.Option.{same_Some, slice_get_read, slice_get_within}
-use Rattle.indexmap.specs.IndexSet.{insert_key}
 use Rattle.cq_term.specs.declared.names.Pred.{Pred}
 use Rattle.cq_clauses.specs.declared.list.End.{End}
 use Rattle.cq_clauses.specs.declared.list.End.TheVariants.{First, Last}
@@ -23,7 +21,6 @@ use Rattle.cq_clauses.specs.Database.{ProcedureNow, now_of, database, same_pred,
 use Rattle.cq_clauses.specs.Procedures.{pred_of, is_of, clause_added_to, with_clause, made_dynamic, with_dynamic, with_all_dynamic, StandsAt, IsAt, IsPlace, clause_taken}
 use Rattle.cq_clauses.specs.Snapshots.{seen, seen_part, seen_through, IsPart, IsSnapshot, KeepsSnapshots}
 use Rattle.cq_clauses.proofs.Listed.{seen_front, window_front, seen_back, window_back, seen_removed, window_removed}
-use Rattle.cq_term.proofs.AtomsPlaces.{list_any-map}
 use Rattle.cq_clauses.proofs.Writes.{got_here, got_still, got_last}
 use Rattle.cq_clauses.proofs.Found.{changed_still, changed_at, changed_none, find_at, find_none, find-map}
 
@@ -33,13 +30,6 @@ pub keys_set : (ps : List Procedure) (i : ℕ) (p q : Procedure) → slice_get p
 keys_set [] i p q got same = refl
 keys_set (x ∷ ps) zero p q got same = ap (λ k. k ∷ map pred_of ps) (ap pred_of (same_Some x p got) ∙ sym same)
 keys_set (x ∷ ps) (suc i) p q got same = ap (λ ks. x.pred ∷ ks) (keys_set ps i p q got same)
-
-pub keys_made : (keys after : List Pred) (ps : List Procedure) (pred copied : Pred) (new : Procedure) → keys ≡ map pred_of ps → copied ≡ pred → new.pred ≡ pred
-    → list_any (is_of pred) ps ≡ false → after ≡ insert_key same_pred keys copied → after ≡ map pred_of (ps ++ new ∷ [])
-keys_made keys after ps pred copied new known same made none put =
-    let absent : list_any (same_pred copied) keys ≡ false = ap₂ (λ (k : Pred) ks. list_any (same_pred k) ks) same known ∙ list_any-map pred_of (same_pred pred) ps ∙ none in
-    put ∙ ap (λ b. if b then keys else keys ++ copied ∷ []) absent ∙ ap₂ (λ ks (k : Pred). ks ++ k ∷ []) known (same ∙ sym made)
-    ∙ sym (map-append pred_of ps (new ∷ []))
 
 -- ---- the procedure of a predicate
 

@@ -2,6 +2,7 @@ pub mod Writes
 pub mod Listed
 pub mod Runs
 pub mod Found
+pub mod Chained
 pub mod Kept
 pub mod Removed
 pub mod Places

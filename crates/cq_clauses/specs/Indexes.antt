@@ -1,6 +1,6 @@
 -- Indexes of lists of clauses by their keys.
 use Rattle.std.specs.Prelude.{ℕ, ◌≡◌, ◌+◌, ◌≤◌, ◌^◌, ◌<◌, ◌⊎◌, List, [], length, slice_get, Bool, false, cond, Option, Some, is_none, unwrap_or}
-use Rattle.indexmap.specs.IndexMap.{get}
+use Rattle.std.specs.HashMap.{get}
 use Rattle.cq_clauses.specs.declared.index.Index.{Index}
 use Rattle.cq_clauses.specs.declared.key.Key.{Key}
 use Rattle.cq_clauses.specs.declared.list.End.{End}

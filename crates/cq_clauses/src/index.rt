@@ -7,8 +7,8 @@ ghost use Rattle.cq_clauses.specs.Indexes.{HasNoted, IsIndex, NoneMatches};
 use crate::key::Key;
 use crate::list::End;
 use crate::place_list::PlaceList;
-use indexmap::IndexMap;
 use std::alloc::{AllocError, Global};
+use std::collections::HashMap;
 
 /// The places of a list's clauses by key, numbered from a number on that falls as clauses are added in front.
 #[derive(Drop)]
@@ -16,7 +16,7 @@ pub struct Index {
     /// The number of the first place.
     first: usize,
     count: usize,
-    keyed: IndexMap<Key, PlaceList>,
+    keyed: HashMap<Key, PlaceList>,
     keyless: PlaceList,
     alloc: Global,
 }
@@ -29,7 +29,7 @@ impl Index {
         Index {
             first: usize::MAX / 2,
             count: 0,
-            keyed: IndexMap::new(alloc),
+            keyed: HashMap::new(alloc),
             keyless: PlaceList::new(alloc),
             alloc,
         }
@@ -81,7 +81,7 @@ impl Index {
             Some(key) => {
                 let mut places = self
                     .keyed
-                    .swap_remove(&key)
+                    .remove(&key)
                     .unwrap_or(PlaceList::new(self.alloc));
                 places.add(number, end)?;
                 self.keyed.insert(key, places)?;

@@ -23,13 +23,13 @@ returns-in-Some-clause-declared c =
     let p = c.index_mut.result.now in
     let within : c.in-Some.number < length items = omega (arith, c.in-Some.ensures.within, ap length c.requires.keys, length-map items pred_of) in
     with_dynamic_at items items c.in-Some.number p refl (procedure_read items items c.in-Some.number p refl within c.index_mut.ensures.value) c.args.pred.now
-    (c.in-Some.ensures.index ∙ ap (position (same_pred c.args.pred.now)) c.requires.keys ∙ position-map pred_of (same_pred c.args.pred.now) items)
+    (c.in-Some.ensures.value ∙ ap (position (same_pred c.args.pred.now)) c.requires.keys ∙ position-map pred_of (same_pred c.args.pred.now) items)
 
 pub returns-in-None-clause-declared : goal.returns-in-None-clause-declared
 returns-in-None-clause-declared c =
     let items = c.args.procedures.now.items in
     let none : false ≡ list_any (is_of c.args.pred.now) items =
     c.in-None.ensures.found ∙ ap (list_any (same_pred c.args.pred.now)) c.requires.keys ∙ list_any-map pred_of (same_pred c.args.pred.now) items in
-    rw (c.push.ensures.items, c.unwrap-in-None.ensures)
+    rw (c.push.ensures.items, c.unwrap.ensures)
     (with_dynamic_new items (items ++ record { pred = c.copy-in-None.result; kind = Dynamic; clauses = c.new.result } ∷ []) c.args.pred.now c.new.result none
     (ap (λ (k : Pred). items ++ record { pred = k; kind = Dynamic; clauses = c.new.result } ∷ []) c.copy-in-None.ensures) c.new.ensures)

@@ -2,7 +2,7 @@ use Rattle.std.proofs.Common.{◌≡◌, ◌+◌, [], sym, ap, subst, ◌∙◌}
 use Rattle.std.specs.Prelude.{unwrap_or}
 use Rattle.std.specs.Option.{option_copied}
 use Rattle.std.proofs.lemmas.Option.{none-some}
-use Rattle.indexmap.specs.IndexMap.{get}
+use Rattle.std.specs.HashMap.{get}
 use Rattle.cq_clauses.specs.Keys.{same_key}
 use Rattle.cq_clauses.specs.Numbered.{NoneWithin}
 use Rattle.cq_clauses.proofs.Indexed.{keyless_rises, keyed_rises, none_matches}

@@ -9,10 +9,10 @@ use Rattle.cq_clauses.proofs.procedures.Procedures.find.Goals as goal
 
 pub returns-clause-value : goal.returns-clause-value
 returns-clause-value c =
-    c.get_index_of.ensures.index ∙ ap (position (same_pred c.args.pred.now)) c.self.invariant ∙ position-map (λ (q : Procedure). q.pred) (same_pred c.args.pred.now) c.self.inside.procedures.items
+    c.find.ensures.value ∙ ap (position (same_pred c.args.pred.now)) c.self.invariant ∙ position-map (λ (q : Procedure). q.pred) (same_pred c.args.pred.now) c.self.inside.procedures.items
     ∙ ap (position (is_of c.args.pred.now)) c.self.view_is
 
 pub returns-clause-found : goal.returns-clause-found
 returns-clause-found c =
-    c.get_index_of.ensures.found ∙ ap (list_any (same_pred c.args.pred.now)) c.self.invariant ∙ list_any-map (λ (q : Procedure). q.pred) (same_pred c.args.pred.now) c.self.inside.procedures.items
+    c.find.ensures.found ∙ ap (list_any (same_pred c.args.pred.now)) c.self.invariant ∙ list_any-map (λ (q : Procedure). q.pred) (same_pred c.args.pred.now) c.self.inside.procedures.items
     ∙ ap (list_any (is_of c.args.pred.now)) c.self.view_is
