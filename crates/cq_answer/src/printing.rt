@@ -8,6 +8,3 @@ mod sums;
 
 pub use names::name_of;
 pub use rows::push_rows;
-
-#[cfg(test)]
-mod tests;
