@@ -1,3 +1,4 @@
 mod Lookups
 mod Named
 mod Admitted
+mod Rows

@@ -18,7 +18,7 @@ use Rattle.cq_term.proofs.AtomsPlaces.{stands_at}
 use Rattle.spec_syntax.specs.declared.operators.OpDef.{OpDef}
 use Rattle.spec_numbers.specs.Texts.{Text}
 use Rattle.spec_syntax.specs.Operators.{Ops, Position, Prefix, Infix, Postfix, Fits, changed, entry, put, put_at, position_of, in_range, kind_named, is_bracket, is_at_odds, clashes, set, set_checked, Comma, Clash}
-use Rattle.cq_ops.specs.Tables.{Tables, AllFit, AreFit, AllBelow, AreNamed, entry_of, named, change, put_number, put_number_at, is_number_at_odds}
+use Rattle.cq_ops.specs.Tables.{Tables, AllFit, AllBelow, AreNamed, entry_of, named, change, put_number, put_number_at, is_number_at_odds}
 use Rattle.cq_term.specs.Texts.{text_of}
 use Rattle.spec_syntax.specs.Standard.{put_names, empty as no_operators}
 use Rattle.cq_ops.proofs.Lookups.{same_test}

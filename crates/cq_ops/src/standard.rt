@@ -1,8 +1,8 @@
 // The operators at the start.
-ghost use Rattle.std.specs.Prelude.{◌≡◌, ◌≤◌, List, map, IfOk, OnOk};
+ghost use Rattle.std.specs.Prelude.{◌≡◌, ◌≤◌, List, map, take, drop, IfOk, OnOk};
 ghost use Rattle.spec_numbers.specs.Texts.{Text};
 ghost use Rattle.cq_term.specs.Texts.{KeepsTexts};
-ghost use Rattle.spec_syntax.specs.Standard.{standard, put_names, empty};
+ghost use Rattle.spec_syntax.specs.Standard.{standard, rows, put_names, put_rows, empty};
 ghost use Rattle.cq_ops.specs.Tables.{AreNamed, named};
 
 use crate::Ops;
@@ -19,19 +19,53 @@ impl Ops {
         ensures kept { KeepsTexts atoms.old atoms.new }
     {
         let mut ops = Ops::empty(alloc);
-        ops.put_names(atoms, 1200, OpKind::Xfx, &[":-", "-->"])?;
-        ops.put_names(atoms, 1200, OpKind::Fx, &[":-", "?-"])?;
-        ops.put_names(
+        ops.put_declarations(atoms)?;
+        ops.put_control(atoms)?;
+        ops.put_comparisons(atoms)?;
+        ops.put_powers(atoms)?;
+        Ok(ops)
+    }
+
+    /// The operators of clauses, queries and declarations.
+    fn put_declarations(&mut self, atoms: &mut Atoms) -> Result<(), AllocError>
+        requires { AreNamed atoms.old self.old }
+        ensures table { OnOk result (named atoms.new self.new ≡ put_rows (named atoms.old self.old) (take 3 rows)) }
+        ensures known { OnOk result (AreNamed atoms.new self.new) }
+        ensures kept { KeepsTexts atoms.old atoms.new }
+    {
+        self.put_names(atoms, 1200, OpKind::Xfx, &[":-", "-->"])?;
+        self.put_names(atoms, 1200, OpKind::Fx, &[":-", "?-"])?;
+        self.put_names(
             atoms,
             1150,
             OpKind::Fx,
             &["dynamic", "discontiguous", "initialization"],
         )?;
-        ops.put_names(atoms, 1100, OpKind::Xfy, &[";"])?;
-        ops.put_names(atoms, 1050, OpKind::Xfy, &["->"])?;
-        ops.put_names(atoms, 1000, OpKind::Xfy, &[","])?;
-        ops.put_names(atoms, 900, OpKind::Fy, &["\\+"])?;
-        ops.put_names(
+        Ok(())
+    }
+
+    /// The operators of disjunctions, implications, conjunctions and negations.
+    fn put_control(&mut self, atoms: &mut Atoms) -> Result<(), AllocError>
+        requires { AreNamed atoms.old self.old }
+        ensures table { OnOk result (named atoms.new self.new ≡ put_rows (named atoms.old self.old) (take 4 (drop 3 rows))) }
+        ensures known { OnOk result (AreNamed atoms.new self.new) }
+        ensures kept { KeepsTexts atoms.old atoms.new }
+    {
+        self.put_names(atoms, 1100, OpKind::Xfy, &[";"])?;
+        self.put_names(atoms, 1050, OpKind::Xfy, &["->"])?;
+        self.put_names(atoms, 1000, OpKind::Xfy, &[","])?;
+        self.put_names(atoms, 900, OpKind::Fy, &["\\+"])?;
+        Ok(())
+    }
+
+    /// Comparisons, sums and products.
+    fn put_comparisons(&mut self, atoms: &mut Atoms) -> Result<(), AllocError>
+        requires { AreNamed atoms.old self.old }
+        ensures table { OnOk result (named atoms.new self.new ≡ put_rows (named atoms.old self.old) (take 3 (drop 7 rows))) }
+        ensures known { OnOk result (AreNamed atoms.new self.new) }
+        ensures kept { KeepsTexts atoms.old atoms.new }
+    {
+        self.put_names(
             atoms,
             700,
             OpKind::Xfx,
@@ -40,17 +74,27 @@ impl Ops {
                 "<", "=<", ">", ">=",
             ],
         )?;
-        ops.put_names(atoms, 500, OpKind::Yfx, &["+", "-", "/\\", "\\/"])?;
-        ops.put_names(
+        self.put_names(atoms, 500, OpKind::Yfx, &["+", "-", "/\\", "\\/"])?;
+        self.put_names(
             atoms,
             400,
             OpKind::Yfx,
             &["*", "/", "//", "rem", "mod", "<<", ">>"],
         )?;
-        ops.put_names(atoms, 200, OpKind::Xfx, &["**"])?;
-        ops.put_names(atoms, 200, OpKind::Xfy, &["^"])?;
-        ops.put_names(atoms, 200, OpKind::Fy, &["-", "\\", "+"])?;
-        Ok(ops)
+        Ok(())
+    }
+
+    /// Powers and signs.
+    fn put_powers(&mut self, atoms: &mut Atoms) -> Result<(), AllocError>
+        requires { AreNamed atoms.old self.old }
+        ensures table { OnOk result (named atoms.new self.new ≡ put_rows (named atoms.old self.old) (drop 10 rows)) }
+        ensures known { OnOk result (AreNamed atoms.new self.new) }
+        ensures kept { KeepsTexts atoms.old atoms.new }
+    {
+        self.put_names(atoms, 200, OpKind::Xfx, &["**"])?;
+        self.put_names(atoms, 200, OpKind::Xfy, &["^"])?;
+        self.put_names(atoms, 200, OpKind::Fy, &["-", "\\", "+"])?;
+        Ok(())
     }
 
     /// No operators.
