@@ -1,8 +1,8 @@
 pub mod Unify
 pub mod Read
+pub mod Told
 pub mod Settled
 pub mod Walk
-pub mod Told
 pub mod Equation
 pub mod Value
 pub mod Delayed

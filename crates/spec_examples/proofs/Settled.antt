@@ -1,8 +1,9 @@
--- Settling where no variable is numeric and nothing is told, waits or sleeps, within so many steps of unification.
-use Rattle.std.proofs.Common.{◌≡◌, ℕ, List, [], ◌∷◌, Bool, true, false, ◌&&◌, ◌||◌, not, cond, Option, None, refl, ap, ◌∙◌, subst}
-use Rattle.std.specs.Prelude.{filter}
+-- Settling where no variable is numeric and nothing is told or waits, within so many steps of unification.
+use Rattle.std.proofs.Common.{◌≡◌, ℕ, List, [], ◌∷◌, ◌++◌, Bool, true, false, ◌&&◌, ◌||◌, not, cond, map, Option, None, refl, sym, ap, ◌∙◌, subst}
+use Rattle.std.specs.Prelude.{filter, IsPermutation}
 use Rattle.std.specs.List.{list_any}
 use Rattle.spec_numbers.specs.Texts.{Text}
+use Rattle.spec_numbers.proofs.Places.{nothing_within}
 use Rattle.spec_terms.specs.Term.{Subst, Var, identity, apply, followed_by}
 use Rattle.spec_terms.specs.Unifier.{Equation, IsUnifier, read_under}
 use Rattle.spec_terms.specs.Variables.{counted_from}
@@ -10,20 +11,36 @@ use Rattle.spec_terms.proofs.Substitution.{apply-identity}
 use Rattle.spec_syntax.specs.Trees.{Tree}
 use Rattle.spec_linear.specs.Solution.{Constraint}
 use Rattle.spec_branch.specs.Branch.{State, Sleeper, Item, Copied, Pending, Branch, Settled, no_work}
-use Rattle.spec_branch.specs.Settling.{Settles, no_unifier, unified, SettlesUnified, clash as clashes, no_solution, kept, Kept, Pruned, Clash, Outcome, kept_branch, bindings_after, value_or_variable, newly_bound, numeric_after, is_bound, is_the_variable, stands_in}
+use Rattle.spec_branch.specs.Closure.{IsClosure, no_move}
+use Rattle.spec_branch.specs.Settling.{Settles, no_unifier, unified, SettlesUnified, clash as clashes, no_solution, kept, Kept, Pruned, Clash, Outcome, kept_branch, bindings_after, value_or_variable, newly_bound, numeric_after, is_bound, is_the_variable, stands_in, binding_equation, woken, left_asleep}
 use Rattle.spec_branch.specs.Alike.{idle, no_values}
-use Rattle.spec_branch.proofs.Idle.{idle_settles}
+use Rattle.spec_branch.proofs.Idle.{fixes_nothing}
 use Rattle.spec_examples.proofs.Unify.{Unified, unifier, clash, unknown, unify, no_pairs}
+use Rattle.spec_examples.proofs.Told.{nothing_solvable}
 
 -- ---- the branch that is kept
 
--- settled, with these bindings and nothing told
-abbrev pub plain : List Item → Subst Text → ℕ → ℕ → Branch
-plain items b next fresh = record { items = items; state = idle b (λ v. false) next fresh; phase = Settled }
+-- nothing is told or waits
+abbrev pub resting : Subst Text → (ℕ → Bool) → List Sleeper → ℕ → ℕ → State
+resting b numeric sleepers next fresh = record (idle b numeric next fresh) { sleepers = sleepers }
 
-module _ (b u : Subst Text) (numeric : ℕ → Bool) (next fresh : ℕ) (none : (v : ℕ) → numeric v ≡ false) where
+-- settled, with these bindings, under which some sleepers wake, and nothing told
+abbrev pub plain : List Item → Subst Text → List Sleeper → ℕ → ℕ → Branch
+plain items b sleepers next fresh = record {
+  items = woken b sleepers ++ items;
+  state = resting b (λ v. false) (left_asleep b sleepers) next fresh;
+  phase = Settled;
+}
+
+nothing_waits : (s : Subst Text) → IsClosure s [] [] [] []
+nothing_waits s = record { moves = no_move; closed = λ m x h. nothing_within h.before h.after h.term h.among }
+
+no_equations : (s : Subst Text) (vs : List ℕ) → vs ≡ [] → IsPermutation [] (map (binding_equation s) vs)
+no_equations s vs e = record { moves = []; below = tt; is = ap (λ (ws : List ℕ). map (binding_equation s) ws) e }
+
+module _ (b u : Subst Text) (numeric : ℕ → Bool) (sleepers : List Sleeper) (next fresh : ℕ) (none : (v : ℕ) → numeric v ≡ false) where
   abbrev pub before : State
-  before = idle b numeric next fresh
+  before = resting b numeric sleepers next fresh
 
   pub none_among : (vs : List ℕ) → filter (λ v. numeric v && not (is_bound b v) && is_bound u v) vs ≡ []
   none_among [] = refl
@@ -43,26 +60,41 @@ module _ (b u : Subst Text) (numeric : ℕ → Bool) (next fresh : ℕ) (none : 
       ap (λ (s : Subst Text). apply s (followed_by b u v)) (λ i w. no_value (numeric_after before u (followed_by b u) p.told w) w i)
       ∙ apply-identity (followed_by b u v)
 
-  pub kept_is : (items : List Item) (p : Pending) → p.told ≡ [] → kept_branch items before p u [] [] no_values ≡ plain items (followed_by b u) next fresh
+  pub kept_is : (items : List Item) (p : Pending) → p.told ≡ [] → kept_branch items before p u [] [] no_values ≡ plain items (followed_by b u) sleepers next fresh
   kept_is items p told = λ i. record {
-    items = items;
+    items = woken (λ v. same_bindings p told v i) sleepers ++ items;
     state = record {
       bindings = λ v. same_bindings p told v i;
       linear = [];
       delayed = [];
       numeric = λ v. (ap (λ (ts : List Tree). numeric_after before u (followed_by b u) ts v) told ∙ not_numeric v) i;
-      sleepers = [];
+      sleepers = left_asleep (λ v. same_bindings p told v i) sleepers;
       next_sleeper = next;
       fresh = fresh;
     };
     phase = Settled;
   }
 
+  -- the pairs are unified, and some sleepers wake
+  pub settles_resting : (items : List Item) (es : List (Equation Text)) → IsUnifier (read_under b es) u
+      → Settles items before (record no_work { equations = es }) (Kept (kept_branch items before (record no_work { equations = es }) u [] [] no_values))
+  settles_resting items es h =
+      unified u h (
+      kept (λ v e. let c : false ≡ true = sym (none v) ∙ e in cc)
+      (record {
+        equations = [];
+        each_newly_bound = no_equations (followed_by b u) (newly_bound before u) (none_among (counted_from 0 fresh));
+        linear = [];
+        waiting = [];
+        closure = nothing_waits (followed_by b u);
+      })
+      nothing_solvable no_values fixes_nothing)
+
   pub kept_plainly : (items : List Item) (es : List (Equation Text)) → IsUnifier (read_under b es) u
-      → Settles items before (record no_work { equations = es }) (Kept (plain items (followed_by b u) next fresh))
+      → Settles items before (record no_work { equations = es }) (Kept (plain items (followed_by b u) sleepers next fresh))
   kept_plainly items es h =
       subst (λ (k : Branch). Settles items before (record no_work { equations = es }) (Kept k)) (kept_is items (record no_work { equations = es }) refl)
-      (idle_settles items b numeric next fresh none es u h)
+      (settles_resting items es h)
 
 -- ---- any state and any work
 
@@ -94,32 +126,32 @@ pub beside : (items : List Item) (st : State) (es : List (Equation Text)) (remov
     → Settles items st (record no_work { equations = es }) (Kept k) → Settles items st (work es removes ball) (Kept k)
 beside items st es removes ball k h = any_outcome items st es removes ball (Kept k) h
 
-abbrev pub by_unifier : (items : List Item) (b : Subst Text) (numeric : ℕ → Bool) (next fresh : ℕ) (es : List (Equation Text)) (removes : Option ℕ) (ball : Option Copied)
-    → Unified (read_under b es) → SettledAs items (idle b numeric next fresh) (work es removes ball)
-by_unifier items b numeric next fresh es removes ball (unifier u h) =
-    keeps_as (plain items (followed_by b u) next fresh)
-    (λ none. beside items (idle b numeric next fresh) es removes ball (plain items (followed_by b u) next fresh) (kept_plainly b u numeric next fresh none items es h))
-by_unifier items b numeric next fresh es removes ball (clash h) = prunes_as (no_unifier h)
-by_unifier items b numeric next fresh es removes ball unknown = unsettled
+abbrev pub by_unifier : (items : List Item) (b : Subst Text) (numeric : ℕ → Bool) (sleepers : List Sleeper) (next fresh : ℕ) (es : List (Equation Text)) (removes : Option ℕ) (ball : Option Copied)
+    → Unified (read_under b es) → SettledAs items (resting b numeric sleepers next fresh) (work es removes ball)
+by_unifier items b numeric sleepers next fresh es removes ball (unifier u h) =
+    keeps_as (plain items (followed_by b u) sleepers next fresh)
+    (λ none. beside items (resting b numeric sleepers next fresh) es removes ball (plain items (followed_by b u) sleepers next fresh) (kept_plainly b u numeric sleepers next fresh none items es h))
+by_unifier items b numeric sleepers next fresh es removes ball (clash h) = prunes_as (no_unifier h)
+by_unifier items b numeric sleepers next fresh es removes ball unknown = unsettled
 
-pub no_growth : (items : List Item) (b : Subst Text) (numeric : ℕ → Bool) (next fresh : ℕ) (removes : Option ℕ) (ball : Option Copied) → ((v : ℕ) → numeric v ≡ false)
-    → Settles items (idle b numeric next fresh) (work [] removes ball) (Kept (plain items b next fresh))
-no_growth items b numeric next fresh removes ball none =
-    beside items (idle b numeric next fresh) [] removes ball (plain items b next fresh)
-    (subst (λ (s : Subst Text). Settles items (idle b numeric next fresh) (record no_work { equations = [] }) (Kept (plain items s next fresh))) (λ i v. apply-identity (b v) i)
-    (kept_plainly b identity numeric next fresh none items [] no_pairs))
+pub no_growth : (items : List Item) (b : Subst Text) (numeric : ℕ → Bool) (sleepers : List Sleeper) (next fresh : ℕ) (removes : Option ℕ) (ball : Option Copied) → ((v : ℕ) → numeric v ≡ false)
+    → Settles items (resting b numeric sleepers next fresh) (work [] removes ball) (Kept (plain items b sleepers next fresh))
+no_growth items b numeric sleepers next fresh removes ball none =
+    beside items (resting b numeric sleepers next fresh) [] removes ball (plain items b sleepers next fresh)
+    (subst (λ (s : Subst Text). Settles items (resting b numeric sleepers next fresh) (record no_work { equations = [] }) (Kept (plain items s sleepers next fresh))) (λ i v. apply-identity (b v) i)
+    (kept_plainly b identity numeric sleepers next fresh none items [] no_pairs))
 
-abbrev pub by_pairs_of : ℕ → (items : List Item) (b : Subst Text) (numeric : ℕ → Bool) (next fresh : ℕ) (es : List (Equation Text)) (removes : Option ℕ) (ball : Option Copied)
-    → SettledAs items (idle b numeric next fresh) (work es removes ball)
-by_pairs_of n items b numeric next fresh [] removes ball = keeps_as (plain items b next fresh) (no_growth items b numeric next fresh removes ball)
-by_pairs_of n items b numeric next fresh (e ∷ es) removes ball = by_unifier items b numeric next fresh (e ∷ es) removes ball (unify n (read_under b (e ∷ es)))
+abbrev pub by_pairs_of : ℕ → (items : List Item) (b : Subst Text) (numeric : ℕ → Bool) (sleepers : List Sleeper) (next fresh : ℕ) (es : List (Equation Text)) (removes : Option ℕ) (ball : Option Copied)
+    → SettledAs items (resting b numeric sleepers next fresh) (work es removes ball)
+by_pairs_of n items b numeric sleepers next fresh [] removes ball = keeps_as (plain items b sleepers next fresh) (no_growth items b numeric sleepers next fresh removes ball)
+by_pairs_of n items b numeric sleepers next fresh (e ∷ es) removes ball = by_unifier items b numeric sleepers next fresh (e ∷ es) removes ball (unify n (read_under b (e ∷ es)))
 
--- where nothing is told, waits or sleeps
+-- where nothing is told or waits
 abbrev pub by_lists : ℕ → (items : List Item) (b : Subst Text) (numeric : ℕ → Bool) (next fresh : ℕ) (linear : List Constraint) (delayed : List Tree) (sleepers : List Sleeper)
     (es : List (Equation Text)) (rows : List Constraint) (told : List Tree) (removes : Option ℕ) (ball : Option Copied)
     → SettledAs items (record { bindings = b; linear = linear; delayed = delayed; numeric = numeric; sleepers = sleepers; next_sleeper = next; fresh = fresh })
     (record { equations = es; rows = rows; told = told; removes = removes; ball = ball })
-by_lists n items b numeric next fresh [] [] [] es [] [] removes ball = by_pairs_of n items b numeric next fresh es removes ball
+by_lists n items b numeric next fresh [] [] sleepers es [] [] removes ball = by_pairs_of n items b numeric sleepers next fresh es removes ball
 by_lists n items b numeric next fresh linear delayed sleepers es rows told removes ball = unsettled
 
 abbrev pub settle : ℕ → (items : List Item) (st : State) (p : Pending) → SettledAs items st p

@@ -72,3 +72,9 @@ pub fn constraints()
     ensures clash { Writes (codes "?- {X>0}, X=a.") (codes "no\n") }
     ensures overflow { WritesStop (codes "?- {X=170141183460469231731687303715884105727+1}.") (codes "stop: overflow\n") }
 {}
+
+/// Goals that sleep until their variable is bound: one that is left asleep, and two that wake in the order in which they went to sleep.
+pub fn sleepers()
+    ensures asleep { Writes (codes "?- freeze(X,foo(Y)).") (codes "freeze(X,foo(Y))\n;\nno\n") }
+    ensures woken { Writes (codes "?- freeze(X,write(a)), freeze(X,write(b)), X=1.") (codes "abX = 1\n;\nno\n") }
+{}
