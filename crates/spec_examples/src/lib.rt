@@ -3,7 +3,7 @@
 #![tactic(auto)]
 
 ghost use Rattle.std.specs.Prelude.{[], codes};
-ghost use Rattle.spec_examples.specs.Rows.{answers, goals, Writes, WritesError, WritesStop, WritesWithin, StopsWithin, WritesAfter, StopsAfter};
+ghost use Rattle.spec_examples.specs.Rows.{answers, goals, Writes, WritesError, WritesStop, WritesWithin, StopsWithin, WritesAfter, WritesErrorAfter, StopsAfter};
 
 /// Nothing, and goals that fail.
 pub fn failures()
@@ -36,10 +36,21 @@ pub fn output()
     ensures operator { Writes (codes "?- op(700,xfx,===>). ?- writeq(a===>b).") (codes "true\n;\nno\na===>btrue\n;\nno\n") }
 {}
 
-/// Balls that nothing catches.
+/// Balls: those that nothing catches, one that a catch takes, and one that it hands on.
 pub fn balls()
     ensures unknown { WritesError (codes "?- foo.") (codes "error: error(existence_error(procedure,foo/0),foo/0)\n") }
     ensures instantiation { WritesError (codes "?- atom_length(X,N).") (codes "error: error(instantiation_error,atom_length/2)\n") }
+    ensures thrown { WritesError (codes "?- throw(b(X)).") (codes "error: b(_1)\n") }
+    ensures caught { Writes (codes "?- catch(p(X),error(existence_error(procedure,PI),_),true).") (codes "PI = p/1\n;\nno\n") }
+    ensures handed_on { WritesError (codes "?- catch(throw(a),b,true).") (codes "error: a\n") }
+{}
+
+/// Goals that are asked for all solutions, or for none.
+pub fn solutions()
+    ensures all { Writes (codes "?- findall(X,(X=1;X=2),L).") (codes "L = [1,2]\n;\nno\n") }
+    ensures none { Writes (codes "?- findall(X,fail,L).") (codes "L = []\n;\nno\n") }
+    ensures refuted { Writes (codes "?- \\+ fail.") (codes "true\n;\nno\n") }
+    ensures proved { Writes (codes "?- \\+ X=1.") (codes "no\n") }
 {}
 
 /// Texts in which no clause stands, and what stands behind them.
@@ -58,9 +69,27 @@ pub fn budgets()
     ensures endless { StopsAfter (codes "loop :- loop.") (codes "?- loop.") (codes "stop: resolutions\n") }
 {}
 
+/// Goals that change the clauses, and what is asked of them then.
+pub fn changes()
+    ensures added { Writes (codes "?- assertz(p(1)). ?- p(X).") (codes "true\n;\nno\nX = 1\n;\nno\n") }
+    ensures removed { WritesAfter (codes ":- dynamic p/1. p(1). p(2).") (codes "?- retract(p(1)). ?- p(X).") (codes "true\n;\nno\nX = 2\n;\nno\n") }
+    // a call that runs doesn't see the clause that is added
+    ensures snapshot { WritesAfter (codes ":- dynamic p/1. p(1).") (codes "?- p(X), Y is X+1, assertz(p(Y)). ?- p(X).")
+        (codes "X = 1\nY = 2\n;\nno\nX = 1\n;\nX = 2\n;\nno\n") }
+{}
+
+/// Directives: one that succeeds writes nothing of its own, and one goal waits for the end of its file.
+pub fn directives()
+    ensures success { Writes (codes ":- write(a).") (codes "a") }
+    ensures failure { Writes (codes ":- fail.") (codes "no\n") }
+    ensures later { WritesAfter (codes ":- initialization(write(b)). :- write(a).") [] (codes "ab") }
+{}
+
 /// Clauses of files.
 pub fn clauses()
     ensures cut { WritesAfter (codes "q(1). q(2). r(X) :- q(X), !.") (codes "?- r(X).") (codes "X = 1\n;\nno\n") }
+    ensures refused { WritesErrorAfter (codes "atom_length(a,1). p.") (codes "?- p.")
+        (codes "error: error(permission_error(modify,static_procedure,atom_length/2),assertz/1)\ntrue\n;\nno\n") }
     ensures opaque { WritesAfter (codes "p(1). p(2).") (codes "?- call((p(X),!)), p(Y).") (codes "X = 1\nY = 1\n;\nX = 1\nY = 2\n;\nno\n") }
 {}
 

@@ -19,3 +19,15 @@ returns-clause-unknown c = derived some_goals no_files (codes "?- foo.") [] refl
 pub returns-clause-instantiation : goal.returns-clause-instantiation
 unfolding encode_utf8 chars is_utf8 first_char use_of begins_term ratio int_ℚ neg_ℚ inv_ℚ gcd ◌+ℚ◌ ◌*ℚ◌ is_bare_right is_bare_left is_bare_argument needs_quotes is_spaced infix_token pieces_at argument_pieces name_text is_apart
 returns-clause-instantiation c = derived some_goals no_files (codes "?- atom_length(X,N).") [] refl refl
+
+pub returns-clause-thrown : goal.returns-clause-thrown
+unfolding encode_utf8 chars is_utf8 first_char use_of begins_term ratio int_ℚ neg_ℚ inv_ℚ gcd ◌+ℚ◌ ◌*ℚ◌ is_bare_right is_bare_left is_bare_argument needs_quotes is_spaced infix_token pieces_at argument_pieces name_text is_apart
+returns-clause-thrown c = derived some_goals no_files (codes "?- throw(b(X)).") [] refl refl
+
+pub returns-clause-caught : goal.returns-clause-caught
+unfolding encode_utf8 chars is_utf8 first_char use_of begins_term ratio int_ℚ neg_ℚ inv_ℚ gcd ◌+ℚ◌ ◌*ℚ◌ is_bare_right is_bare_left is_bare_argument needs_quotes is_spaced infix_token pieces_at argument_pieces name_text is_apart
+returns-clause-caught c = derived some_goals no_files (codes "?- catch(p(X),error(existence_error(procedure,PI),_),true).") [] refl refl
+
+pub returns-clause-handed_on : goal.returns-clause-handed_on
+unfolding encode_utf8 chars is_utf8 first_char use_of begins_term ratio int_ℚ neg_ℚ inv_ℚ gcd ◌+ℚ◌ ◌*ℚ◌ is_bare_right is_bare_left is_bare_argument needs_quotes is_spaced infix_token pieces_at argument_pieces name_text is_apart
+returns-clause-handed_on c = derived some_goals no_files (codes "?- catch(throw(a),b,true).") [] refl refl

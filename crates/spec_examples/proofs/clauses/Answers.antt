@@ -16,6 +16,10 @@ pub returns-clause-cut : goal.returns-clause-cut
 unfolding encode_utf8 chars is_utf8 first_char use_of begins_term ratio int_ℚ neg_ℚ inv_ℚ gcd ◌+ℚ◌ ◌*ℚ◌ is_bare_right is_bare_left is_bare_argument needs_quotes is_spaced infix_token pieces_at argument_pieces name_text is_apart
 returns-clause-cut c = derived some_goals (file (codes "q(1). q(2). r(X) :- q(X), !.")) (codes "?- r(X).") one_name refl refl
 
+pub returns-clause-refused : goal.returns-clause-refused
+unfolding encode_utf8 chars is_utf8 first_char use_of begins_term ratio int_ℚ neg_ℚ inv_ℚ gcd ◌+ℚ◌ ◌*ℚ◌ is_bare_right is_bare_left is_bare_argument needs_quotes is_spaced infix_token pieces_at argument_pieces name_text is_apart
+returns-clause-refused c = derived some_goals (file (codes "atom_length(a,1). p.")) (codes "?- p.") one_name refl refl
+
 pub returns-clause-opaque : goal.returns-clause-opaque
 unfolding encode_utf8 chars is_utf8 first_char use_of begins_term ratio int_ℚ neg_ℚ inv_ℚ gcd ◌+ℚ◌ ◌*ℚ◌ is_bare_right is_bare_left is_bare_argument needs_quotes is_spaced infix_token pieces_at argument_pieces name_text is_apart
 returns-clause-opaque c = derived some_goals (file (codes "p(1). p(2).")) (codes "?- call((p(X),!)), p(Y).") one_name refl refl
