@@ -8,3 +8,6 @@ pub mod Value
 pub mod Delayed
 pub mod Overflow
 pub mod Clashing
+pub mod Inequalities
+pub mod Both
+pub mod Above
