@@ -11,3 +11,4 @@ pub mod Clashing
 pub mod Inequalities
 pub mod Both
 pub mod Above
+pub mod Projected

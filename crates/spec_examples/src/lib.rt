@@ -93,11 +93,13 @@ pub fn clauses()
     ensures opaque { WritesAfter (codes "p(1). p(2).") (codes "?- call((p(X),!)), p(Y).") (codes "X = 1\nY = 1\n;\nX = 1\nY = 2\n;\nno\n") }
 {}
 
-/// Told constraints: one that fixes a variable, one that follows from another, one that waits, one that a binding breaks, and
-/// one whose numbers overflow.
+/// Told constraints: one that fixes a variable, one that follows from another, two of which a variable is eliminated, one that
+/// waits, one that a binding breaks, and one whose numbers overflow.
 pub fn constraints()
     ensures value { Writes (codes "?- {2*X+3=7}.") (codes "X = 2\n;\nno\n") }
     ensures inequality { Writes (codes "?- {X>=3, X>=5}.") (codes "{X>=5}\n;\nno\n") }
+    // a variable whose name begins with `_` isn't asked for
+    ensures projection { Writes (codes "?- {X=<_A, _A=<3}.") (codes "{X=<3}\n;\nno\n") }
     ensures delayed { Writes (codes "?- {X*Y=6}.") (codes "{X*Y=6}\n;\nno\n") }
     // a numeric variable becomes no atom
     ensures clash { Writes (codes "?- {X>0}, X=a.") (codes "no\n") }
