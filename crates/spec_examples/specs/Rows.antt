@@ -60,8 +60,10 @@ StopsWithin budgets input text = Transcript budgets no_files input [] text with_
 abbrev pub WritesAfter : Text → Text → Text → Type 0
 WritesAfter bytes input text = Transcript some_goals (file bytes) input one_name text unmarked
 
+-- the same with an error line
 abbrev pub WritesErrorAfter : Text → Text → Text → Type 0
 WritesErrorAfter bytes input text = Transcript some_goals (file bytes) input one_name text with_error
 
+-- behind this file the input writes this text and stops
 abbrev pub StopsAfter : Text → Text → Text → Type 0
 StopsAfter bytes input text = Transcript some_goals (file bytes) input one_name text with_stop
