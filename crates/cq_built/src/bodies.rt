@@ -84,9 +84,11 @@ fn take_turn(
         }
         Task::Part(id) => {
             if let Some(sides) = construct_of(heap, atoms, id) {
-                tasks.push(Task::Join(sides.name))?;
-                tasks.push(Task::Part(sides.right))?;
-                tasks.push(Task::Part(sides.left))?;
+                tasks.extend_from_slice(&[
+                    Task::Join(sides.name),
+                    Task::Part(sides.right),
+                    Task::Part(sides.left),
+                ])?;
                 return Ok(());
             }
             let goal = goal_of(heap, atoms, call, id)?;

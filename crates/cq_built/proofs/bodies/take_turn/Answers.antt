@@ -1,4 +1,4 @@
-use Rattle.std.proofs.Common.{◌≡◌, ◌∙◌, ◌<◌, Some, [], ◌∷◌, ◌++◌, length, rules, sym, ap, subst, arith}
+use Rattle.std.proofs.Common.{◌≡◌, ◌∙◌, ◌<◌, Some, [], ◌∷◌, ◌++◌, append_assoc, List, length, rules, sym, ap, subst, arith}
 use Rattle.std.proofs.lemmas.List.Elements.{All-pop}
 use Rattle.cq_term.specs.Trees.{tree}
 use Rattle.cq_built.specs.Bodies.{work_of, after, done_trees, Turns}
@@ -7,16 +7,19 @@ use Rattle.cq_built.specs.declared.bodies.Task.TheVariants as task
 use Rattle.cq_built.proofs.Tasks.{sides_wait, one_done, done_last, part_weighs}
 use Rattle.cq_built.proofs.bodies.take_turn.Goals as goal
 
+-- three at the end are one after another at the end
+three_more : (xs : List Task) (a b c : Task) → xs ++ a ∷ b ∷ c ∷ [] ≡ ((xs ++ a ∷ []) ++ b ∷ []) ++ c ∷ []
+three_more xs a b c = simp append_assoc
+
 pub returns-in-Some-clause-turns : goal.returns-in-Some-clause-turns
 returns-in-Some-clause-turns c =
     let texts = c.args.atoms.now in
     let ts = c.args.heap.now.now.terms in
     let tasks = c.args.tasks.now.items in
     let done = c.args.done.now.items in
-    let new = c.push-in-Some-3.new.self.items in
+    let new = c.extend_from_slice.new.self.items in
     let s = c.in-Some.sides in
-    let pushed = c.in_ok-push-in-Part-3.ensures.items
-    ∙ ap (λ xs. xs ++ task.Part s.left ∷ []) (c.in_ok-push-in-Part-2.ensures.items ∙ ap (λ xs. xs ++ task.Part s.right ∷ []) c.in_ok-push-in-Part.ensures.items) in
+    let pushed = c.in_ok-extend_from_slice-in-Part.ensures.items ∙ three_more tasks (task.Join s.name) (task.Part s.right) (task.Part s.left) in
     subst (λ (t : Task). Turns texts ts t tasks done ts new done) (sym c.in-Part.is)
     (sides_wait texts ts tasks new done c.in-Part.id s c.in-Some.ensures.some c.requires.tasks c.requires.done pushed)
 
@@ -42,8 +45,8 @@ returns-in_ok-push-in-Join-clause-turns c =
     (ap (λ xs. after (work_of texts ts (task.Join c.in-Join.name)) (Some xs)) trees ∙ ap (λ t. Some (t ∷ done_trees texts ts rest)) (sym c.in_ok-id-in-Join.ensures.built))
     (omega arith))
 
-pub returns-in_ok-push-in-Part-4-clause-turns : goal.returns-in_ok-push-in-Part-4-clause-turns
-returns-in_ok-push-in-Part-4-clause-turns c =
+pub returns-in_ok-push-in-Part-clause-turns : goal.returns-in_ok-push-in-Part-clause-turns
+returns-in_ok-push-in-Part-clause-turns c =
     let texts = c.args.atoms.now in
     let ts = c.args.heap.now.now.terms in
     let us = c.goal_of.new.heap.now.terms in
@@ -51,6 +54,6 @@ returns-in_ok-push-in-Part-4-clause-turns c =
     let done = c.args.done.now.items in
     subst (λ (t : Task). Turns texts ts t tasks done us tasks c.push-in-Part.new.self.items) (sym c.in-Part.is)
     (one_done texts ts us c.in_ok-goal-in-Part.ensures.grows.terms c.requires.names (task.Part c.in-Part.id) tasks done done c.push-in-Part.new.self.items c.in_ok-goal-in-Part.goal
-    c.requires.tasks c.requires.done c.in_ok-goal-in-Part.ensures.live c.in_ok-push-in-Part-4.ensures.items
+    c.requires.tasks c.requires.done c.in_ok-goal-in-Part.ensures.live c.in_ok-push-in-Part.ensures.items
     (ap (λ t. Some (t ∷ done_trees texts ts done)) (sym c.in_ok-goal-in-Part.ensures.converted))
     (part_weighs (tree texts ts c.in-Part.id)))
