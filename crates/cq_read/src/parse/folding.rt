@@ -57,9 +57,9 @@ fn end_argument(
     ensures heap { OnlyGrows heap.old heap.new }
 {
     let mut args = before;
+    args.push(operand)?;
     match token {
         Token::Close => {
-            args.push(operand)?;
             let whole = compound(heap, name, &args)?;
             Ok(Some(State::AfterOperand {
                 most,
@@ -68,7 +68,6 @@ fn end_argument(
             }))
         }
         Token::Comma => {
-            args.push(operand)?;
             frames.push(Frame::InArguments {
                 name,
                 before: args,
@@ -104,9 +103,9 @@ fn end_element(
     ensures heap { OnlyGrows heap.old heap.new }
 {
     let mut elements = before;
+    elements.push(operand)?;
     match token {
         Token::CloseList => {
-            elements.push(operand)?;
             let nil = atom(heap, names.nil)?;
             let whole = list(heap, names, elements, nil)?;
             Ok(Some(State::AfterOperand {
@@ -116,7 +115,6 @@ fn end_element(
             }))
         }
         Token::Comma => {
-            elements.push(operand)?;
             frames.push(Frame::InElements {
                 before: elements,
                 most,
@@ -124,7 +122,6 @@ fn end_element(
             Ok(Some(State::BeforeTerm { most: 999 }))
         }
         Token::Bar => {
-            elements.push(operand)?;
             frames.push(Frame::InTail {
                 before: elements,
                 most,

@@ -11,7 +11,7 @@ returns-in_ok-whole-in-Close-clause-step c ops texts =
     let ts = c.args.heap.now.now.terms in
     let us = c.compound.new.heap.now.terms in
     let grown = c.in_ok-whole-in-Close.ensures.heap.terms in
-    let whole = argument_closed texts ts us c.args.name c.args.before.items c.push.new.self.items c.args.operand c.in_ok-whole-in-Close.whole c.in_ok-push-in-Close.ensures.items
+    let whole = argument_closed texts ts us c.args.name c.args.before.items c.push.new.self.items c.args.operand c.in_ok-whole-in-Close.whole c.in_ok-push.ensures.items
     (c.in_ok-whole-in-Close.ensures.built ∙ ap (λ xs. with_arguments c.args.name (map (at ts) xs)) c.deref.ensures.value) in
     rw (c.in-Close.is, frames_kept texts ts us grown c.args.frames.now.items c.requires.frames, whole) refl
 

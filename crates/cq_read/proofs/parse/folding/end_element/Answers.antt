@@ -12,7 +12,7 @@ returns-in_ok-whole-in-CloseList-clause-step c ops texts known =
     let grown = prefix_both ts us vs first c.in_ok-whole-in-CloseList.ensures.heap.terms in
     let nil = name_tree texts us us c.args.names.now.nil c.in_ok-nil-in-CloseList.nil (codes "[]") c.in_ok-nil-in-CloseList.ensures.built known.nil in
     let whole = elements_closed texts ts us first vs c.args.before.items c.push.new.self.items c.args.operand c.in_ok-nil-in-CloseList.nil c.in_ok-whole-in-CloseList.whole
-    c.in_ok-push-in-CloseList.ensures.items c.requires.before c.requires.operand (c.in_ok-whole-in-CloseList.ensures.list texts known) nil in
+    c.in_ok-push.ensures.items c.requires.before c.requires.operand (c.in_ok-whole-in-CloseList.ensures.list texts known) nil in
     rw (c.in-CloseList.is, frames_kept texts ts vs grown c.args.frames.now.items c.requires.frames, whole) refl
 
 pub returns-in_ok-whole-in-CloseList-clause-frames : goal.returns-in_ok-whole-in-CloseList-clause-frames
