@@ -13,7 +13,7 @@ ghost use Rattle.cq_resolve.specs.Resolved.{completed};
 use crate::stored::{build, new_variables};
 use cq_frac::{Frac, VarId};
 use cq_term::{Atom, Heap, Newly, TermId, View};
-use cq_unify::unify;
+use cq_unify::unify_unmarked;
 use std::alloc::AllocError;
 
 /// Makes a variable of the clause that was met equal to a term of the goal.
@@ -74,7 +74,7 @@ fn join_terms(heap: &mut Heap, newly: &mut Newly, a: TermId, b: TermId) -> Resul
     ensures saved { heap.new.saved ≡ heap.old.saved }
     ensures room { heap.old.room ≤ heap.new.room }
 {
-    unify(heap, newly, a, b)
+    unify_unmarked(heap, newly, a, b)
 }
 
 /// Makes a number of the head equal to a term of the goal.

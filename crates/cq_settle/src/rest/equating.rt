@@ -8,7 +8,7 @@ ghost use Rattle.cq_settle.specs.Equal.{MayBeEqual, AllEqual};
 
 use cq_term::walk::Pair;
 use cq_term::{Heap, Newly};
-use cq_unify::unify;
+use cq_unify::unify_unmarked;
 use std::alloc::AllocError;
 
 /// Makes pairs of terms equal, one after another, and gives the variables that were bound, in a list that the heap lends; None
@@ -23,7 +23,7 @@ pub fn equate(heap: &mut Heap, pairs: &[Pair]) -> Result<Option<Newly>, AllocErr
 {
     let mut newly = heap.spare_newly();
     for pair in pairs {
-        if !unify(heap, &mut newly, pair.left, pair.right)? {
+        if !unify_unmarked(heap, &mut newly, pair.left, pair.right)? {
             return Ok(None);
         }
     }

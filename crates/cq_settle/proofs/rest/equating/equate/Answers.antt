@@ -24,15 +24,15 @@ pub returns-then-not-branch-clause-none : goal.returns-then-not-branch-clause-no
 returns-then-not-branch-clause-none c = λ _.
     let here : c.loop-pair.pair-index < length c.args.pairs.now = omega (arith, c.loop-pair-test.true) in
     next_none c.args.heap.now.now c.loop-pair.heap.now c.args.pairs.now c.loop-pair.pair-index c.pair-item.result c.pair-item.is c.loop-pair.newly here c.requires
-    c.loop-pair.invariant.equal (c.in_ok-unify.ensures.none (ap Ok c.if-not-branch.true))
+    c.loop-pair.invariant.equal (c.in_ok-unify_unmarked.ensures.none (ap Ok c.if-not-branch.true))
 
 pub loop-pair-preserved : goal.loop-pair-preserved
 loop-pair-preserved c =
     let here : c.loop-pair.pair-index < length c.args.pairs.now = omega (arith, c.loop-pair-test.true) in
     record {
       equal = next_equal c.args.heap.now.now c.loop-pair.heap.now c.args.pairs.now c.loop-pair.pair-index c.pair-item.result c.pair-item.is c.loop-pair.newly here c.requires
-          c.loop-pair.invariant.equal c.unify.new.heap.now c.unify.new.newly (c.in_ok-unify.ensures.unified (ap Ok c.if-not-branch.false));
-      names = λ n k. c.in_ok-unify.ensures.names n (c.loop-pair.invariant.names n k);
-      saved = c.in_ok-unify.ensures.saved ∙ c.loop-pair.invariant.saved;
-      room = omega (arith, c.in_ok-unify.ensures.room, c.loop-pair.invariant.room);
+          c.loop-pair.invariant.equal c.unify_unmarked.new.heap.now c.unify_unmarked.new.newly (c.in_ok-unify_unmarked.ensures.unified (ap Ok c.if-not-branch.false));
+      names = λ n k. c.in_ok-unify_unmarked.ensures.names n (c.loop-pair.invariant.names n k);
+      saved = c.in_ok-unify_unmarked.ensures.saved ∙ c.loop-pair.invariant.saved;
+      room = omega (arith, c.in_ok-unify_unmarked.ensures.room, c.loop-pair.invariant.room);
     }
