@@ -12,7 +12,7 @@ use Rattle.cq_resolve.specs.Pattern.{heads, heads_in, term_of, IsPattern}
 use Rattle.cq_resolve.specs.FirstArgument.{first_of, first_shown, IsRigid}
 use Rattle.cq_resolve.proofs.Reading.{pattern_heads}
 
-begins : (t : HeapTerm) → (rest : List View) × (heads t ≡ view_of t ∷ rest)
+pub begins : (t : HeapTerm) → (rest : List View) × (heads t ≡ view_of t ∷ rest)
 begins (Var v) = ([], refl)
 begins (Number q) = ([], refl)
 begins (Name a) = ([], refl)

@@ -4,8 +4,8 @@ pub mod StoredNamed
 pub mod Numbering
 pub mod Reading
 pub mod Renamed
+pub mod Marks
 pub mod Completed
-pub mod Ends
 pub mod Matched
 pub mod Named
 pub mod PartTerms

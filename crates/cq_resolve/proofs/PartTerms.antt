@@ -25,7 +25,7 @@ module _ (head : List View) (place end : ℕ) (p : Parts head place end) where
   pub part_term : term_of (take (end - place) (drop place head)) ≡ term_of (drop place head)
   part_term = ap term_of part_is ∙ term_of-heads (term_of (drop place head))
 
-part_below : (n : ℕ) (head : List View) (place end : ℕ) → AreHeads n head → Parts head place end → (v : ℕ) → Occurs v (term_of (drop place head)) → v < n
+pub part_below : (n : ℕ) (head : List View) (place end : ℕ) → AreHeads n head → Parts head place end → (v : ℕ) → Occurs v (term_of (drop place head)) → v < n
 part_below n head place end fit p = below_part n (term_of (drop place head)) (drop end head) (subst (HaveBelow n) p.term (have_below n (drop place head) (heads_left n place head fit)))
 
 pub part_pattern : (n : ℕ) (head : List View) (place end : ℕ) → AreHeads n head → Parts head place end → IsPattern n (take (end - place) (drop place head))

@@ -26,7 +26,7 @@ heads_in-terms_of : (t : HeapTerm) (us : List HeapTerm) → heads_in (terms_of t
 heads_in-terms_of t [] = sym (append-nil (heads t))
 heads_in-terms_of t (u ∷ us) = ap (λ hs. heads t ++ hs) (heads_in-terms_of u us)
 
-heads-with_arguments : (f : ℕ) (us : List HeapTerm) → 0 < length us → heads (with_arguments f us) ≡ view.Compound f (length us) ∷ all_heads us
+pub heads-with_arguments : (f : ℕ) (us : List HeapTerm) → 0 < length us → heads (with_arguments f us) ≡ view.Compound f (length us) ∷ all_heads us
 heads-with_arguments f [] lt = absurd (omega arith)
 heads-with_arguments f (t ∷ us) lt = λ i. view.Compound f (count-terms_of t us i) ∷ heads_in-terms_of t us i
 

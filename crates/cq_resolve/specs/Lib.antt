@@ -1,4 +1,5 @@
 pub mod Pattern
+pub mod Marks
 pub mod FirstArgument
 pub mod StoredValue
 pub mod Building

@@ -1,16 +1,17 @@
 // A term of the goal and a part of the head are made equal.
 
-ghost use Rattle.std.specs.Prelude.{◌≡◌, ◌+◌, ◌<◌, ◌≤◌, ◌^◌, ◌++◌, ℕ, List, length, All, OnOk, Ok, true, false};
+ghost use Rattle.std.specs.Prelude.{◌≡◌, ◌+◌, ◌<◌, ◌≤◌, ◌^◌, ◌++◌, ℕ, List, length, map, All, OnOk, Ok, true, false};
 ghost use Rattle.spec_terms.specs.Term.{Var, Number, Name, apply};
 ghost use Rattle.cq_frac.specs.declared.VarId.{VarId};
 ghost use Rattle.cq_term.specs.Names.{KeepsNames};
 ghost use Rattle.cq_term.specs.Meaning.{at};
 ghost use Rattle.cq_resolve.specs.Pattern.{IsPattern, IsNamedBelow, term_of};
+ghost use Rattle.cq_resolve.specs.Marks.{shown};
 ghost use Rattle.cq_resolve.specs.Building.{AreThere, image_from};
 ghost use Rattle.cq_resolve.specs.Joined.{Joins, Clash};
 ghost use Rattle.cq_resolve.specs.Resolved.{completed};
 
-use crate::stored::{build, new_variables};
+use crate::stored::{Part, build};
 use cq_frac::{Frac, VarId};
 use cq_term::{Atom, Heap, Newly, TermId, View};
 use cq_unify::unify_unmarked;
@@ -36,25 +37,18 @@ pub(crate) fn join_variable(
     join_terms(heap, newly, goal, met)
 }
 
-/// Makes so many variables of the clause that were passed over, and then the next, which is bound to a term of the goal from
-/// the start: it needs no occurs check.
-pub(crate) fn join_new(
-    heap: &mut Heap,
-    newly: &mut Newly,
-    passed: usize,
-    goal: TermId,
-) -> Result<(), AllocError>
+/// Makes the clause's next variable, which is bound to a term of the goal from the start: it needs no occurs check.
+pub(crate) fn join_new(heap: &mut Heap, newly: &mut Newly, goal: TermId) -> Result<(), AllocError>
     requires { goal < length heap.old.now.terms }
     ensures joined { OnOk result ((total : ℕ) → length heap.new.now.images ≤ total
-        → Joins (completed total heap.old.now) (completed total heap.new.now) goal (Var (length heap.old.now.images + passed)) newly.old newly.new) }
-    ensures made { OnOk result (length heap.new.now.images ≡ length heap.old.now.images + passed + 1) }
+        → Joins (completed total heap.old.now) (completed total heap.new.now) goal (Var (length heap.old.now.images)) newly.old newly.new) }
+    ensures made { OnOk result (length heap.new.now.images ≡ length heap.old.now.images + 1) }
     ensures few { OnOk result (length heap.new.now.images < 2 ^ 64) }
     ensures told { (more : List VarId) × (newly.new ≡ newly.old ++ more) }
     ensures names { (n : ℕ) → KeepsNames n heap.old.now heap.new.now }
     ensures saved { heap.new.saved ≡ heap.old.saved }
     ensures room { heap.old.room ≤ heap.new.room }
 {
-    new_variables(heap, passed)?;
     heap.variables_are_unbound();
     heap.images_are_unbound();
     let variable = VarId(heap.variables());
@@ -135,17 +129,17 @@ pub(crate) fn join_name(
 pub(crate) fn join_built(
     heap: &mut Heap,
     newly: &mut Newly,
-    part: &[View],
+    part: &[Part],
     first: usize,
     goal: TermId,
 ) -> Result<bool, AllocError>
     requires live { goal < length heap.old.now.terms }
-    requires part { (count : ℕ) × IsPattern count part.now × AreThere heap.old.now.images first count }
+    requires part { (count : ℕ) × IsPattern count (map shown part.now) × AreThere heap.old.now.images first count }
     ensures joined { result ≡ Ok true
-        → Joins heap.old.now heap.new.now goal (apply (image_from heap.old.now.images first) (term_of part.now)) newly.old newly.new }
-    ensures clash { result ≡ Ok false → Clash (at heap.old.now.terms goal) (apply (image_from heap.old.now.images first) (term_of part.now)) }
+        → Joins heap.old.now heap.new.now goal (apply (image_from heap.old.now.images first) (term_of (map shown part.now))) newly.old newly.new }
+    ensures clash { result ≡ Ok false → Clash (at heap.old.now.terms goal) (apply (image_from heap.old.now.images first) (term_of (map shown part.now))) }
     ensures told { (more : List VarId) × (newly.new ≡ newly.old ++ more) }
-    ensures names { OnOk result ((n : ℕ) → All (IsNamedBelow n) part.now → KeepsNames n heap.old.now heap.new.now) }
+    ensures names { OnOk result ((n : ℕ) → All (IsNamedBelow n) (map shown part.now) → KeepsNames n heap.old.now heap.new.now) }
     ensures saved { heap.new.saved ≡ heap.old.saved }
     ensures room { heap.old.room ≤ heap.new.room }
 {

@@ -3,7 +3,6 @@
 
 mod joining;
 mod matching;
-mod parts;
 pub mod program;
 mod resolution;
 pub mod stored;

@@ -1,6 +1,6 @@
 // Clauses as they are kept for calls.
 
-ghost use Rattle.std.specs.Prelude.{◌≡◌, ◌<◌, ◌≤◌, ◌++◌, ℕ, length, All, IfOk, OnOk, OnErr};
+ghost use Rattle.std.specs.Prelude.{◌≡◌, ◌<◌, ◌≤◌, ◌++◌, ℕ, length, map, All, IfOk, OnOk, OnErr};
 ghost use Rattle.spec_numbers.specs.Prefixes.{IsPrefix};
 ghost use Rattle.spec_terms.specs.Variables.{variables, renamed_from};
 ghost use Rattle.spec_terms.specs.Term.{apply};
@@ -10,9 +10,12 @@ ghost use Rattle.cq_unify.specs.Copied.{unbound_from};
 ghost use Rattle.cq_resolve.specs.Building.{moved_by};
 ghost use Rattle.cq_resolve.specs.FirstArgument.{first_shown};
 ghost use Rattle.cq_resolve.specs.Pattern.{IsPattern, term_of};
+ghost use Rattle.cq_resolve.specs.Marks.{shown, AreMarked};
 ghost use Rattle.cq_resolve.specs.StoredValue.{both, HaveNamesBelow};
 
 use crate::stored::building::{build, new_variables};
+use crate::stored::marks::mark;
+use crate::stored::part::Part;
 use crate::stored::pattern::pattern_of;
 use cq_term::{Heap, TermId, View};
 use cq_trail::Undo;
@@ -20,26 +23,32 @@ use indexmap::IndexSet;
 use std::alloc::AllocError;
 use std::marker::Model;
 
-/// A head and a body over variables of their own, numbered from 0 by first occurrence. Each is kept as the list of the
-/// heads of its parts, from left to right.
+/// A head and a body over variables of their own, numbered from 0 by first occurrence. Each is kept as the list of its
+/// parts, from left to right. The head's parts are marked.
 #[derive(Drop)]
 pub struct Clause {
-    head: Vec<View>,
-    body: Vec<View>,
+    head: Vec<Part>,
+    body: Vec<Part>,
     variables: usize,
 }
 
 impl Model for Clause {
     ghost use Rattle.cq_resolve.specs.StoredValue.{ClauseValue, clause_code};
+    ghost use Rattle.std.specs.Prelude.{map};
     ghost use Rattle.cq_resolve.specs.Pattern.{IsPattern, term_of};
+    ghost use Rattle.cq_resolve.specs.Marks.{shown, AreMarked};
 
     ghost Value = { ClauseValue };
 
     ghost coded = { clause_code };
 
-    ghost view = { λ c. record { head = term_of c.head.items; body = term_of c.body.items; variables = c.variables } };
+    ghost view = { λ c. record { head = term_of (map shown c.head.items); body = term_of (map shown c.body.items); variables = c.variables } };
 
-    ghost invariant = { λ c. record { head : IsPattern c.variables c.head.items; body : IsPattern c.variables c.body.items } };
+    ghost invariant = { λ c. record {
+      head : IsPattern c.variables (map shown c.head.items);
+      body : IsPattern c.variables (map shown c.body.items);
+      marks : AreMarked c.head.items;
+    } };
 }
 
 impl Clause {
@@ -53,12 +62,14 @@ impl Clause {
             → HasNamesBelow n (at heap.now.now.terms body) → HaveNamesBelow n c) }
     {
         let mut originals = IndexSet::new(heap.alloc());
-        let head = pattern_of(heap, head, &mut originals)?;
+        let mut head = pattern_of(heap, head, &mut originals)?;
         let body = pattern_of(heap, body, &mut originals)?;
+        let variables = originals.len();
+        mark(&mut head)?;
         Ok(Clause {
             head,
             body,
-            variables: originals.len(),
+            variables,
         })
     }
 
@@ -66,24 +77,25 @@ impl Clause {
     pub fn first_argument(&self) -> Option<View>
         ensures { result ≡ first_shown self.now.head }
     {
-        match self.head[0] {
-            View::Compound(_, _) => Some(self.head[1]),
+        match self.head[0].view() {
+            View::Compound(_, _) => Some(self.head[1].view()),
             View::Var(_) | View::Number(_) | View::Name(_) => None,
         }
     }
 
-    /// The head as the heads of its parts.
-    pub fn head(&self) -> &[View]
-        ensures pattern { IsPattern self.now.variables result.now }
-        ensures term { term_of result.now ≡ self.now.head }
+    /// The parts of the head, which are marked.
+    pub fn head(&self) -> &[Part]
+        ensures pattern { IsPattern self.now.variables (map shown result.now) }
+        ensures term { term_of (map shown result.now) ≡ self.now.head }
+        ensures marks { AreMarked result.now }
     {
         &self.head
     }
 
-    /// The body as the heads of its parts.
-    pub fn body(&self) -> &[View]
-        ensures pattern { IsPattern self.now.variables result.now }
-        ensures term { term_of result.now ≡ self.now.body }
+    /// The parts of the body.
+    pub fn body(&self) -> &[Part]
+        ensures pattern { IsPattern self.now.variables (map shown result.now) }
+        ensures term { term_of (map shown result.now) ≡ self.now.body }
     {
         &self.body
     }

@@ -1,6 +1,6 @@
 // Terms that are kept for later.
 
-ghost use Rattle.std.specs.Prelude.{◌≡◌, ◌<◌, ◌≤◌, ◌++◌, ℕ, length, All, IfOk, OnOk, OnErr};
+ghost use Rattle.std.specs.Prelude.{◌≡◌, ◌<◌, ◌≤◌, ◌++◌, ℕ, length, map, All, IfOk, OnOk, OnErr};
 ghost use Rattle.spec_numbers.specs.Prefixes.{IsPrefix};
 ghost use Rattle.spec_terms.specs.Variables.{variables, renamed_from};
 ghost use Rattle.spec_terms.specs.Term.{apply};
@@ -8,9 +8,11 @@ ghost use Rattle.cq_term.specs.Meaning.{at};
 ghost use Rattle.cq_term.specs.Names.{HasNamesBelow, KeepsNames};
 ghost use Rattle.cq_unify.specs.Copied.{unbound_from};
 ghost use Rattle.cq_resolve.specs.Building.{moved_by};
+ghost use Rattle.cq_resolve.specs.Marks.{shown};
 ghost use Rattle.cq_resolve.specs.Pattern.{IsPattern, term_of};
 
 use crate::stored::building::{build, new_variables};
+use crate::stored::part::Part;
 use crate::stored::pattern::pattern_of;
 use cq_frac::Frac;
 use cq_term::{Atom, Heap, TermId, View};
@@ -19,13 +21,13 @@ use indexmap::IndexSet;
 use std::alloc::AllocError;
 use std::marker::Model;
 
-/// A number or a name by itself, any other term as the list of the heads of its parts, from left to right, with how many
-/// variables it has.
+/// A number or a name by itself, any other term as the list of its parts, from left to right, with how many variables it
+/// has.
 #[derive(Drop)]
 enum Kept {
     Number(Frac),
     Name(Atom),
-    Parts(Vec<View>, usize),
+    Parts(Vec<Part>, usize),
 }
 
 /// A term over variables of its own, numbered from 0 by first occurrence, that outlives every `undo` of the heap that it
@@ -105,13 +107,13 @@ impl StoredTerm {
 }
 
 /// The term of a pattern on a heap under new variables, the oldest for its first. An error is want of memory.
-fn restore_parts(heap: &mut Heap, pattern: &[View], count: usize) -> Result<TermId, AllocError>
-    requires { IsPattern count pattern.now }
+fn restore_parts(heap: &mut Heap, pattern: &[Part], count: usize) -> Result<TermId, AllocError>
+    requires { IsPattern count (map shown pattern.now) }
     ensures live { IfOk result (λ id. id < length heap.new.now.terms) }
-    ensures moved { IfOk result (λ id. at heap.new.now.terms id ≡ apply (moved_by (length heap.old.now.images)) (term_of pattern.now)) }
+    ensures moved { IfOk result (λ id. at heap.new.now.terms id ≡ apply (moved_by (length heap.old.now.images)) (term_of (map shown pattern.now))) }
     ensures terms { OnOk result (IsPrefix heap.old.now.terms heap.new.now.terms) }
     ensures images { OnOk result (heap.new.now.images ≡ heap.old.now.images ++ unbound_from (length heap.old.now.images) count) }
-    ensures names { (n : ℕ) → HasNamesBelow n (term_of pattern.now) → KeepsNames n heap.old.now heap.new.now }
+    ensures names { (n : ℕ) → HasNamesBelow n (term_of (map shown pattern.now)) → KeepsNames n heap.old.now heap.new.now }
     ensures err { OnErr result (heap.new.now ≡ heap.old.now) }
     ensures saved { heap.new.saved ≡ heap.old.saved }
     ensures room { heap.old.room ≤ heap.new.room }
@@ -130,13 +132,13 @@ fn restore_parts(heap: &mut Heap, pattern: &[View], count: usize) -> Result<Term
 }
 
 /// The same, where an error may leave parts of it on the heap.
-fn moved(heap: &mut Heap, pattern: &[View], count: usize) -> Result<TermId, AllocError>
-    requires { IsPattern count pattern.now }
+fn moved(heap: &mut Heap, pattern: &[Part], count: usize) -> Result<TermId, AllocError>
+    requires { IsPattern count (map shown pattern.now) }
     ensures live { IfOk result (λ id. id < length heap.new.now.terms) }
-    ensures moved { IfOk result (λ id. at heap.new.now.terms id ≡ apply (moved_by (length heap.old.now.images)) (term_of pattern.now)) }
+    ensures moved { IfOk result (λ id. at heap.new.now.terms id ≡ apply (moved_by (length heap.old.now.images)) (term_of (map shown pattern.now))) }
     ensures terms { OnOk result (IsPrefix heap.old.now.terms heap.new.now.terms) }
     ensures images { OnOk result (heap.new.now.images ≡ heap.old.now.images ++ unbound_from (length heap.old.now.images) count) }
-    ensures names { OnOk result ((n : ℕ) → HasNamesBelow n (term_of pattern.now) → KeepsNames n heap.old.now heap.new.now) }
+    ensures names { OnOk result ((n : ℕ) → HasNamesBelow n (term_of (map shown pattern.now)) → KeepsNames n heap.old.now heap.new.now) }
     ensures saved { heap.new.saved ≡ heap.old.saved }
     ensures room { heap.old.room ≤ heap.new.room }
 {

@@ -1,4 +1,4 @@
-use Rattle.std.proofs.Common.{Bool}
+use Rattle.std.proofs.Common.{Bool, map}
 use Rattle.std.specs.Prelude.{Ok, Err, OnOk}
 use Rattle.std.specs.declared.result.Result.{Result}
 use Rattle.std.specs.declared.alloc.AllocError.{AllocError}
@@ -6,6 +6,7 @@ use Rattle.spec_terms.specs.Term.{apply}
 use Rattle.cq_term.specs.Meaning.{at, blank}
 use Rattle.spec_numbers.proofs.Prefixes.{prefix_get_or}
 use Rattle.cq_resolve.specs.Pattern.{term_of}
+use Rattle.cq_resolve.specs.Marks.{shown}
 use Rattle.cq_resolve.specs.Building.{image_from}
 use Rattle.cq_resolve.proofs.Telling.{joined_as, joined_larger}
 use Rattle.cq_resolve.proofs.joining.join_built.Goals as goal
@@ -17,7 +18,7 @@ returns-clause-joined c = λ e.
     let mid = c.build.new.heap.now in
     let new = c.join_terms.new.heap.now in
     let left = at old.terms c.args.goal in
-    let right = apply (image_from old.images c.args.first) (term_of c.args.part.now) in (
+    let right = apply (image_from old.images c.args.first) (term_of (map shown c.args.part.now)) in (
       h.0,
       h.1,
       joined_larger old mid new left right h.0 c.in_ok-built.ensures.terms c.in_ok-built.ensures.images

@@ -1,4 +1,4 @@
-use Rattle.std.proofs.Common.{◌∙◌, ap, sym, subst, length, arith, ◌<◌}
+use Rattle.std.proofs.Common.{◌∙◌, ap, sym, subst, length, map, arith, ◌<◌}
 use Rattle.std.specs.Prelude.{All}
 use Rattle.spec_numbers.specs.Prefixes.{IsPrefix}
 use Rattle.spec_terms.specs.Term.{apply}
@@ -6,6 +6,7 @@ use Rattle.cq_term.specs.HeapValue.{HeapValue}
 use Rattle.cq_term.specs.Meaning.{at}
 use Rattle.cq_term.specs.Names.{HasNamesBelow}
 use Rattle.cq_resolve.specs.Pattern.{term_of}
+use Rattle.cq_resolve.specs.Marks.{shown}
 use Rattle.cq_resolve.specs.Building.{AreThere, image_from}
 use Rattle.cq_resolve.proofs.stored.building.build.Goals as goal
 
@@ -26,7 +27,7 @@ pub returns-clause-built : goal.returns-clause-built
 returns-clause-built c =
     ap (λ (h : HeapValue). at h.now.terms c.in_ok-whole.whole) c.keep_list.ensures
     ∙ c.in_ok-whole.ensures.built
-    ∙ ap (λ (h : HeapValue). apply (image_from h.now.images c.args.first) (term_of c.args.pattern.now)) c.spare_list-built.ensures.same
+    ∙ ap (λ (h : HeapValue). apply (image_from h.now.images c.args.first) (term_of (map shown c.args.pattern.now))) c.spare_list-built.ensures.same
 
 pub returns-clause-terms : goal.returns-clause-terms
 returns-clause-terms c =

@@ -1,4 +1,4 @@
-use Rattle.std.proofs.Common.{◌≡◌, ◌∙◌, ℕ, List, ap, sym, subst, arith}
+use Rattle.std.proofs.Common.{◌≡◌, ◌∙◌, ℕ, List, map, ap, sym, subst, arith}
 use Rattle.std.specs.Prelude.{Contains}
 use Rattle.spec_terms.specs.Term.{Occurs, apply}
 use Rattle.spec_terms.specs.Variables.{variables, variables_after, numbered_from, renamed_from}
@@ -9,6 +9,7 @@ use Rattle.cq_term.specs.Names.{HasNamesBelow}
 use Rattle.cq_term.proofs.Known.{names_substituted}
 use Rattle.cq_term.specs.Places.{numbers_of}
 use Rattle.cq_resolve.specs.Pattern.{term_of}
+use Rattle.cq_resolve.specs.Marks.{shown}
 use Rattle.cq_resolve.proofs.Reading.{term_of-heads}
 use Rattle.cq_resolve.proofs.Numbering.{numbered_pattern}
 use Rattle.cq_resolve.proofs.stored.term.StoredTerm.in_parts.Goals as goal
@@ -27,7 +28,7 @@ module _ (c : In_ok-pattern) where
   known : (v : ℕ) → Occurs v original → Contains (numbers_of all) v
   known v o = subst (λ vs. Contains vs v) (sym all_are) (occurs_listed original v o)
 
-  term_is : term_of c.in_ok-pattern.pattern.items ≡ renamed_from 0 original
+  term_is : term_of (map shown c.in_ok-pattern.pattern.items) ≡ renamed_from 0 original
   term_is =
       ap term_of c.in_ok-pattern.ensures.pattern ∙ term_of-heads (apply (numbered_from 0 (numbers_of all)) original)
       ∙ ap (λ vs. apply (numbered_from 0 vs) original) all_are
@@ -35,7 +36,7 @@ module _ (c : In_ok-pattern) where
 pub invariant_of-result : goal.invariant_of-result
 invariant_of-result c =
     let k = (goal.at.invariant_of-result c).In_ok-pattern in
-    numbered_pattern (original k) (all k) c.len.result c.in_ok-pattern.pattern.items (known k) (omega (arith, c.len.ensures.len)) c.in_ok-pattern.ensures.pattern
+    numbered_pattern (original k) (all k) c.len.result (map shown c.in_ok-pattern.pattern.items) (known k) (omega (arith, c.len.ensures.len)) c.in_ok-pattern.ensures.pattern
 
 pub returns-clause-renamed : goal.returns-clause-renamed
 returns-clause-renamed c = term_is (goal.at.returns-clause-renamed c).In_ok-pattern
