@@ -243,7 +243,7 @@ fn body_before(
 fn body_shown(clause: &Clause) -> View
     ensures { result ≡ view_of clause.now.body }
 {
-    clause.body()[0]
+    clause.body()[0].view()
 }
 
 /// Whether the body of a clause is the atom `true`.

@@ -1,7 +1,11 @@
-use Rattle.std.proofs.Common.{◌≡◌, List, get_or, sym, ap, ◌∙◌}
+use Rattle.std.proofs.Common.{◌≡◌, List, length, map, get_or, sym, ap, arith, ◌∙◌}
+use Rattle.std.proofs.lemmas.List.{length-map}
 use Rattle.spec_terms.specs.Term.{Var, Number, Name, Compound}
 use Rattle.cq_resolve.specs.Pattern.{heads}
+use Rattle.cq_resolve.specs.Marks.{shown}
 use Rattle.cq_resolve.proofs.Reading.{pattern_heads}
+use Rattle.cq_resolve.proofs.FirstArguments.{head_shown}
+use Rattle.cq_resolve.proofs.Marks.{shown_at}
 use Rattle.cq_term.specs.Meaning.{HeapTerm}
 use Rattle.cq_term.specs.Shown.{view_of}
 use Rattle.cq_term.specs.declared.view.View.{View}
@@ -16,7 +20,9 @@ first_head (Compound f ts) h e = e
 
 pub returns : goal.returns
 returns c =
-    first_head c.args.clause.now.body c.index-body-0.result
-    (c.index-body-0.is
-    ∙ ap (λ (hs : List View). get_or hs 0 c.index-body-0.result)
-    (sym (pattern_heads c.args.clause.now.variables c.body.result.now c.body.ensures.pattern) ∙ ap heads c.body.ensures.term))
+    let parts = c.body.result.now in
+    let front = head_shown c.args.clause.now.variables (map shown parts) c.body.ensures.pattern in
+    first_head c.args.clause.now.body c.view.result
+    (shown_at parts 0 c.index-body-0.result c.view.result (omega (arith, length-map parts shown, ap length front.1)) c.index-body-0.is (sym c.view.ensures)
+    ∙ ap (λ (hs : List View). get_or hs 0 c.view.result)
+    (sym (pattern_heads c.args.clause.now.variables (map shown parts) c.body.ensures.pattern) ∙ ap heads c.body.ensures.term))
