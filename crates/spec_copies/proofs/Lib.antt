@@ -10,3 +10,4 @@ pub mod Same
 pub mod Unkept
 pub mod Numeric
 pub mod Known
+pub mod KeptCopy

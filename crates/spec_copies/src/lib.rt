@@ -16,16 +16,18 @@ ghost use Rattle.spec_branch.specs.Examples.{X, Y};
 ghost use Rattle.spec_copies.specs.Parts.{IsPart};
 ghost use Rattle.spec_copies.specs.Copies.{IsKept, IsCopy};
 ghost use Rattle.spec_copies.specs.Alike.{MentionsNumeric, IsUnconstrained, SameCopy};
-ghost use Rattle.spec_copies.specs.Samples.{positive, positive_copy, successor, successor_copy, product, product_copy, frozen, frozen_copy, free_copy};
+ghost use Rattle.spec_copies.specs.Samples.{positive, positive_copy, successor, successor_copy, product, product_copy, frozen, frozen_copy, free_copy, pair_term, apart, apart_copy};
 
-/// Five small copies: of a variable with an inequality, of one whose constraints mention another, of one with a constraint
-/// that waits, of one with a goal that sleeps on it, and of one that such a goal merely mentions.
+/// Six small copies: of a variable with an inequality, of one whose constraints mention another, of one with a constraint
+/// that waits, of one with a goal that sleeps on it, of one that such a goal merely mentions, and of a term with which a
+/// variable goes that is kept for a disequation.
 pub fn small_copies()
     ensures inequality { (c : Copied) → IsCopy positive X c → SameCopy c positive_copy }
     ensures projected { (c : Copied) → IsCopy successor Y c → SameCopy c successor_copy }
     ensures waits { (c : Copied) → IsCopy product X c → SameCopy c product_copy }
     ensures sleeps { (c : Copied) → IsCopy frozen X c → SameCopy c frozen_copy }
     ensures left_behind { (c : Copied) → IsCopy frozen Y c → SameCopy c free_copy }
+    ensures kept { IsCopy apart pair_term apart_copy }
 {}
 
 /// A term whose variables nothing constrains has the plain copy, and no other.

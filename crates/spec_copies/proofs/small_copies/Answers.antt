@@ -1,4 +1,5 @@
 use Rattle.spec_copies.proofs.Known.{positive_known, successor_known, product_known, frozen_known, free_known}
+use Rattle.spec_copies.proofs.KeptCopy.{apart_is_copied}
 use Rattle.spec_copies.proofs.small_copies.Goals as goal
 
 pub returns : goal.returns
@@ -8,4 +9,5 @@ returns c = record {
   waits = product_known;
   sleeps = frozen_known;
   left_behind = free_known;
+  kept = apart_is_copied;
 }
