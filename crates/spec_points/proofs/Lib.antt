@@ -6,4 +6,7 @@ pub mod Chosen
 pub mod Exists
 pub mod Unique
 pub mod Lines
+pub mod Reach
 pub mod Sampled
+pub mod Worked
+pub mod KeptPoint

@@ -1,45 +1,23 @@
 -- The points of the samples.
-use Rattle.std.proofs.Common.{◌≡◌, inl, inr, ℕ, zero, suc, ◌<◌, List, [], ◌∷◌, ◌++◌, pos, refl, sym, ap, ap₂, subst, ◌∙◌, arith}
-use Rattle.spec_numbers.specs.Rational.{ℚ, 0ℚ, 1ℚ, ◌+ℚ◌, ◌-ℚ◌, ◌*ℚ◌, neg_ℚ, IsPositive, IsNotNegative, ◌≤ℚ◌, ◌<ℚ◌}
+use Rattle.std.proofs.Common.{◌≡◌, inl, inr, ℕ, zero, suc, ◌<◌, List, [], ◌∷◌, pos, refl, sym, ap, ap₂, subst, ◌∙◌, arith}
+use Rattle.spec_numbers.specs.Rational.{ℚ, 0ℚ, 1ℚ, ◌+ℚ◌, ◌-ℚ◌, ◌*ℚ◌, neg_ℚ, IsNotNegative, ◌≤ℚ◌, ◌<ℚ◌}
 use Rattle.spec_numbers.proofs.Ring.{var, int, ◌⊕◌, ◌⊗◌, minus}
 use Rattle.spec_numbers.proofs.RationalLemmas.{ring}
-use Rattle.spec_numbers.proofs.Sign.{pos_one, pos_nonneg, nonneg_zero, one_not_zero, not_both}
-use Rattle.spec_numbers.proofs.Order.{le_refl, neg_le, neg_lt, lt_le_trans}
-use Rattle.spec_linear.specs.Form.{Linear, value_at, variable_form, constant_form, negated_form, difference_form}
-use Rattle.spec_linear.specs.Solution.{Constraint, Point, number, Has, Solves, Solvable, Unsolvable, Satisfies, HoldsAt, Holds, equal_to}
-use Rattle.spec_linear.specs.Weak.{above_zero}
-use Rattle.spec_linear.specs.Extremes.{Exceeds, IsSupremum, IsInfimum, IsUnbounded}
-use Rattle.spec_linear.proofs.Values.{value_at-variable_form, value_at-negated_form}
-use Rattle.spec_linear.proofs.Denominators.{solvable_same}
+use Rattle.spec_numbers.proofs.Sign.{pos_one, pos_nonneg, one_not_zero, not_both}
+use Rattle.spec_numbers.proofs.Order.{le_refl, neg_le}
+use Rattle.spec_linear.specs.Form.{variable_form, negated_form}
+use Rattle.spec_linear.specs.Solution.{Constraint, Point, number, Has, Solves, Unsolvable, Satisfies}
+use Rattle.spec_linear.specs.Extremes.{IsInfimum, IsUnbounded}
+use Rattle.spec_linear.proofs.Values.{value_at-variable_form}
 use Rattle.spec_linear.proofs.Points.{solves_same}
 use Rattle.spec_linear.proofs.Lists.{equal_to-holds}
-use Rattle.spec_linear.proofs.Together.{less_is}
 use Rattle.spec_projection.proofs.Members.{alike_refl}
 use Rattle.spec_projection.proofs.Upwards.{beyond}
-use Rattle.spec_points.specs.Bounds.{OnlyAbove, Anywhere, HasBounds, only_above, anywhere, tried, whole}
+use Rattle.spec_points.specs.Bounds.{OnlyAbove, Anywhere, only_above, anywhere, whole}
 use Rattle.spec_points.specs.Points.{with_value, IsChosen, IsPoint}
 use Rattle.spec_points.specs.Samples.{at_least_five, unequal}
-use Rattle.spec_points.proofs.Inside.{away}
+use Rattle.spec_points.proofs.Reach.{exceeds_at, solved, has, negative}
 use Rattle.spec_points.proofs.Unique.{unique}
-
--- ---- from values to points
-
-exceeds_at : (l : List Constraint) (f : Linear) (r : ℚ) (b : ℕ → ℚ) → Satisfies b l → r <ℚ value_at b f → Exceeds l f r
-exceeds_at l f r b s h =
-    let g : Linear = difference_form f (constant_form r) in
-    let p : Solvable (above_zero g ∷ l) = (solvable_same (above_zero g ∷ l)).1 (b, (subst IsPositive (sym (less_is b f r)) h.gap, s)) in
-    let k = (solves_same p.0 (above_zero g ∷ l)).0 p.1 in
-    (p.0, p.1.1, record { gap = subst IsPositive (less_is (number p.0) f r) k.0 })
-
-solved : (l : List Constraint) (b : ℕ → ℚ) → Satisfies b l → Solvable l
-solved l b s = (solvable_same l).1 (b, s)
-
--- the variable has the value
-has : (b : ℕ → ℚ) (x : ℕ) (q : ℚ) → b x ≡ q → HoldsAt b (equal_to x q)
-has b x q e = away b x q ∙ ap (λ (z : ℚ). z -ℚ q) e ∙ ring (q ∷ []) (var 0 ⊕ minus (var 0)) (int (pos 0)) refl
-
-negative : (b : ℕ → ℚ) (x : ℕ) → value_at b (negated_form (variable_form x)) ≡ neg_ℚ (b x)
-negative b x = value_at-negated_form b (variable_form x) ∙ ap neg_ℚ (value_at-variable_form b x)
 
 -- ---- X>=5
 

@@ -23,6 +23,7 @@ pub data HasBounds (l : List Constraint) (x : ℕ) : Bounds → Type 0 where
   anywhere : IsUnbounded l (negated_form (variable_form x)) → IsUnbounded l (variable_form x)
       → HasBounds l x Anywhere
 
+-- a natural number as a rational
 abbrev pub whole : ℕ → ℚ
 whole n = int_ℚ (pos n)
 

@@ -15,7 +15,7 @@ ghost use Rattle.spec_points.specs.Points.{IsChosen, IsPoint, unsolved};
 ghost use Rattle.spec_points.specs.Conditions.{AreSolvedRows};
 ghost use Rattle.spec_points.specs.Lines.{ArePointLines};
 ghost use Rattle.spec_points.specs.Between.{Inside, Excludes};
-ghost use Rattle.spec_points.specs.Samples.{at_least_five, unequal, sample_line};
+ghost use Rattle.spec_points.specs.Samples.{at_least_five, unequal, wedge, both_positive, kept_apart, loan, sample_line};
 
 /// The values that are tried first, with the bounds of a variable worked out by hand.
 pub fn values_that_are_tried()
@@ -34,11 +34,24 @@ pub fn values_that_are_tried()
     ensures further { tried Anywhere 1 ≡ whole 1 }
 {}
 
-/// Small points worked by hand: X is 6 where X>=5, and where X and Y differ X is 0, and Y is 1, since 0 does not work.
+/// Small points worked by hand: X is 6 where X>=5, and where X and Y differ X is 0, and Y is 1, since 0 does not work. Where
+/// X+Y>=1, X-Y=<3 and Y=<2, X is 2, between -1 and 5, and then Y is a half, between -1 and 2. Where X and its copy are above 0,
+/// both are 1. Where Z is kept for a disequation, with X>=Z>=0 and Y=\=Z, X is 1, Y is 0, and Z is a half. A solved equation gives
+/// its variable a value from those of the free ones, here 0 from two that are 0.
 pub fn small_points()
     ensures above { (v : ℕ → ℚ) → IsPoint [] at_least_five (0 ∷ []) v → v 0 ≡ whole 6 }
     ensures first { (v : ℕ → ℚ) → IsPoint [] unequal (0 ∷ 1 ∷ []) v → v 0 ≡ whole 0 }
     ensures second { (v : ℕ → ℚ) → IsPoint [] unequal (0 ∷ 1 ∷ []) v → v 1 ≡ whole 1 }
+    ensures wedge_first { (v : ℕ → ℚ) → IsPoint [] wedge (0 ∷ 1 ∷ []) v → v 0 ≡ whole 2 }
+    ensures wedge_second { (v : ℕ → ℚ) → IsPoint [] wedge (0 ∷ 1 ∷ []) v → v 1 ≡ ratio (pos 1) 2 }
+    ensures positive_first { (v : ℕ → ℚ) → IsPoint [] both_positive (0 ∷ 1 ∷ []) v → v 0 ≡ whole 1 }
+    ensures positive_second { (v : ℕ → ℚ) → IsPoint [] both_positive (0 ∷ 1 ∷ []) v → v 1 ≡ whole 1 }
+    ensures kept_first { (v : ℕ → ℚ) → IsPoint [] kept_apart (0 ∷ 1 ∷ 2 ∷ []) v → v 0 ≡ whole 1 }
+    ensures kept_second { (v : ℕ → ℚ) → IsPoint [] kept_apart (0 ∷ 1 ∷ 2 ∷ []) v → v 1 ≡ whole 0 }
+    ensures kept_third { (v : ℕ → ℚ) → IsPoint [] kept_apart (0 ∷ 1 ∷ 2 ∷ []) v → v 2 ≡ ratio (pos 1) 2 }
+    ensures loan_first { (v : ℕ → ℚ) → IsPoint loan [] (0 ∷ 1 ∷ 2 ∷ []) v → v 0 ≡ whole 0 }
+    ensures loan_second { (v : ℕ → ℚ) → IsPoint loan [] (0 ∷ 1 ∷ 2 ∷ []) v → v 1 ≡ whole 0 }
+    ensures loan_third { (v : ℕ → ℚ) → IsPoint loan [] (0 ∷ 1 ∷ 2 ∷ []) v → v 2 ≡ whole 0 }
 {}
 
 /// Lines with their values: no blank stands round `=`, also before `-`, and `, ` between two.
