@@ -22,9 +22,11 @@ pub data DifState : Type 0 where
   Broken : DifState
   Waiting : DifState
 
+-- the two terms as one equation
 abbrev pub pair : Tree → Tree → List (Equation Text)
 pair a b = record { left = a; right = b } ∷ []
 
+-- the terms are identical: neither comes first in the order of terms
 abbrev pub is_same : Tree → Tree → Bool
 is_same a b = elim (compare_terms a b) [ Less ↦ false | Equal ↦ true | Greater ↦ false ]
 
@@ -41,6 +43,7 @@ state_by a b (inr n) = Gone
 abbrev pub dif_state : Tree → Tree → DifState
 dif_state a b = state_by a b (texts_unified (pair a b))
 
+-- whether the pair still stays different may yet change
 abbrev pub is_waiting : DifState → Bool
 is_waiting Gone = false
 is_waiting Broken = false
@@ -48,10 +51,12 @@ is_waiting Waiting = true
 
 -- ---- conditions
 
+-- the term is a variable
 abbrev pub is_variable : Tree → Bool
 is_variable (Var v) = true
 is_variable t = false
 
+-- no variable stands in the term
 abbrev pub is_ground : Tree → Bool
 is_ground t = elim (variables t) [ [] ↦ true | v ∷ vs ↦ false ]
 
@@ -60,6 +65,7 @@ abbrev pub first_of : Option Tree → Option Tree → Option Tree
 first_of (Some e) d = Some e
 first_of None d = d
 
+-- whether a condition holds, and what is wrong with a term that is none
 abbrev mutual
   -- Of a condition as it reads: `nonvar(X)` is true where X is no variable, `ground(T)` where T has none, `?=(X,Y)` where the terms
   -- can no longer come to be one or the other; `,` where both sides are, `;` where either is.

@@ -23,6 +23,7 @@ abbrev pub caret_terms : Tree → List Tree
 caret_terms (Compound f (more v (one g))) = if bytes_eq f (codes "^") then v ∷ caret_terms g else []
 caret_terms t = []
 
+-- the variable is one of these
 abbrev pub is_among : List ℕ → ℕ → Bool
 is_among vs v = list_any (λ w. w == v) vs
 
@@ -43,12 +44,14 @@ abbrev pub free_part : Tree → Tree
 free_part (Compound f (more a (one b))) = a
 free_part t = t
 
+-- the template as it was copied, behind the free variables
 abbrev pub template_part : Tree → Tree
 template_part (Compound f (more a (one b))) = b
 template_part t = t
 
 -- ---- groups
 
+-- the terms are identical: neither comes first in the order of terms
 abbrev pub is_same : Tree → Tree → Bool
 is_same a b = elim (compare_terms a b) [ Less ↦ false | Equal ↦ true | Greater ↦ false ]
 
@@ -72,5 +75,6 @@ groups_within zero cs = []
 groups_within (suc n) [] = []
 groups_within (suc n) (c ∷ cs) = (c ∷ filter (are_together c) cs) ∷ groups_within n (filter (λ d. not (are_together c d)) cs)
 
+-- no more groups than copies
 abbrev pub groups : List Copied → List (List Copied)
 groups cs = groups_within (length cs) cs

@@ -46,6 +46,7 @@ relation_word Ne = codes "ne"
 abbrev pub pair_word : ℕ × ℚ → Text
 pair_word p = join_with_byte 58 (decimal p.0 ∷ number_text p.1 ∷ [])
 
+-- a variable and its coefficient
 abbrev pub product_pair : Monomial → ℕ × ℚ
 product_pair m = (m.variable, m.factor)
 
@@ -53,13 +54,16 @@ product_pair m = (m.variable, m.factor)
 abbrev pub member_words : Constraint → List Text
 member_words c = relation_word c.relation ∷ number_text c.form.constant ∷ map (λ m. pair_word (product_pair m)) c.form.products
 
+-- `run`, and each member with its multiplier
 abbrev pub run_words : Run → List Text
 run_words r = codes "run" ∷ map pair_word r
 
+-- a line for each run
 abbrev pub runs_words : Runs → List (List Text)
 runs_words (one r) = run_words r ∷ []
 runs_words (two r s) = run_words r ∷ run_words s ∷ []
 
+-- `list`, and how many members follow
 abbrev pub list_words : ℕ → List Text
 list_words n = codes "list" ∷ decimal n ∷ []
 
@@ -67,12 +71,15 @@ list_words n = codes "list" ∷ decimal n ∷ []
 abbrev pub entry_words : Entry → List (List Text)
 entry_words e = list_words (length e.list) ∷ map member_words e.list ++ runs_words e.runs
 
+-- the first line of a log
 abbrev pub head_words : List Text
 head_words = codes "clpq" ∷ codes "proof" ∷ codes "1" ∷ []
 
+-- `done`, and how many entries there are
 abbrev pub done_words : ℕ → List Text
 done_words n = codes "done" ∷ decimal n ∷ []
 
+-- the lines of one entry after the other
 abbrev pub entries_words : List Entry → List (List Text)
 entries_words [] = []
 entries_words (e ∷ es) = entry_words e ++ entries_words es
@@ -83,6 +90,7 @@ entries_words (e ∷ es) = entry_words e ++ entries_words es
 abbrev pub line_text : List Text → Text
 line_text ws = join_with_byte 32 ws ++ 10 ∷ []
 
+-- the lines one behind the other
 abbrev pub lines_text : List (List Text) → Text
 lines_text ls = concat (map line_text ls)
 
@@ -110,12 +118,15 @@ IsNumbered seen (c ∷ cs) = AreCounted seen 0 c.form.products × IsNumbered (se
 
 -- ---- which numbers may stand in a log: those of 128 bits
 
+-- both numbers of the pair are of 128 bits
 abbrev pub PairFits : ℕ × ℚ → Type 0
 PairFits p = (p.0 < limit) × Fits p.1
 
+-- the member's constant, its variables and their coefficients are
 abbrev pub MemberFits : Constraint → Type 0
 MemberFits c = Fits c.form.constant × AllByRecursion (λ m. PairFits (product_pair m)) c.form.products
 
+-- those of all runs are
 abbrev pub RunsFit : Runs → Type 0
 RunsFit (one r) = AllByRecursion PairFits r
 RunsFit (two r s) = AllByRecursion PairFits r × AllByRecursion PairFits s
@@ -134,6 +145,7 @@ AreRefuting l (two r s) = AreCut l r s
 
 -- ---- a log
 
+-- its variables are numbered by first occurrence, its runs refute its list, and all its numbers fit
 pub record IsLawful (e : Entry) : Type 0 where
   pub numbered : IsNumbered 0 e.list
   pub refuted : AreRefuting e.list e.runs

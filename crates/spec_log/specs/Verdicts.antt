@@ -21,6 +21,7 @@ use Rattle.spec_log.specs.Log.{Run, seen_after}
 
 -- ---- numbers
 
+-- the number fits into 128 bits
 abbrev pub within : ℕ → Bool
 within n = nat_lt n limit
 
@@ -28,6 +29,7 @@ within n = nat_lt n limit
 abbrev pub whole_in : Text → Option ℕ
 whole_in w = if bytes_eq (decimal (digits_value 10 w)) w && within (digits_value 10 w) then Some (digits_value 10 w) else None
 
+-- a whole number as a fraction
 abbrev pub whole_number : Option ℕ → Option ℚ
 whole_number (Some a) = Some (ratio (pos a) 1)
 whole_number None = None
@@ -41,6 +43,7 @@ abbrev pub lowest_in : Option ℕ → Option ℕ → Option ℚ
 lowest_in (Some a) (Some b) = if nat_lt 1 b && is_lowest a b then Some (ratio (pos a) b) else None
 lowest_in a b = None
 
+-- what stands before and behind `r`, or the one number where no `r` stands
 abbrev pub parts_in : List Text → Option ℚ
 parts_in (a ∷ []) = whole_number (whole_in a)
 parts_in (a ∷ b ∷ []) = lowest_in (whole_in a) (whole_in b)
@@ -65,6 +68,7 @@ abbrev pub both : {A B : Type 0} → Option A → Option B → Option (A × B)
 both (Some a) (Some b) = Some (a, b)
 both a b = None
 
+-- what stands before and behind `:`
 abbrev pub pair_of : List Text → Option (ℕ × ℚ)
 pair_of (v ∷ q ∷ []) = both (whole_in v) (fraction_in q)
 pair_of ws = None
@@ -73,16 +77,19 @@ pair_of ws = None
 abbrev pub pair_in : Text → Option (ℕ × ℚ)
 pair_in w = pair_of (slice_split (λ b. b == 58) w)
 
+-- one more in front, if it and the others are there
 abbrev pub in_front : {A : Type 0} → Option A → Option (List A) → Option (List A)
 in_front (Some a) (Some s) = Some (a ∷ s)
 in_front a s = None
 
+-- each word as a pair
 abbrev pub pairs_in : List Text → Option (List (ℕ × ℚ))
 pairs_in [] = Some []
 pairs_in (w ∷ ws) = in_front (pair_in w) (pairs_in ws)
 
 -- ---- lines
 
+-- the relation of a word, if it is one
 abbrev pub relation_in : Text → Option Relation
 relation_in w =
     if bytes_eq (codes "eq") w then Some Eq else if bytes_eq (codes "gt") w then Some Gt
@@ -93,13 +100,16 @@ abbrev pub are_counted : ℕ → ℕ → List (ℕ × ℚ) → Bool
 are_counted seen last [] = true
 are_counted seen last (p ∷ ps) = nat_lt last p.0 && nat_le p.0 (suc seen) && not (is_zero p.1) && are_counted (max seen p.0) p.0 ps
 
+-- variables with their coefficients as products
 abbrev pub products_of : List (ℕ × ℚ) → List Monomial
 products_of [] = []
 products_of (p ∷ ps) = record { variable = p.0; factor = p.1 } ∷ products_of ps
 
+-- a member of its relation, its constant and its pairs
 abbrev pub constraint_of : Relation → ℚ → List (ℕ × ℚ) → Constraint
 constraint_of r q ps = record { relation = r; form = record { products = products_of ps; constant = q } }
 
+-- the member, if its parts are there and its variables are numbered as they must be
 abbrev pub member_by : ℕ → Option Relation → Option ℚ → Option (List (ℕ × ℚ)) → Option Constraint
 member_by seen (Some r) (Some q) (Some ps) = if are_counted seen 0 ps then Some (constraint_of r q ps) else None
 member_by seen r q ps = None
@@ -113,6 +123,7 @@ member_in seen ws = None
 abbrev pub are_members : ℕ → Run → Bool
 are_members n r = list_all (λ e. nat_lt 0 e.0 && nat_le e.0 n) r
 
+-- the run, if it has an entry and its numbers are those of members
 abbrev pub run_by : ℕ → Option Run → Option Run
 run_by n None = None
 run_by n (Some []) = None
@@ -123,6 +134,7 @@ abbrev pub run_in : ℕ → List Text → Option Run
 run_in n [] = None
 run_in n (w ∷ ws) = if bytes_eq (codes "run") w then run_by n (pairs_in ws) else None
 
+-- the line is meant to be a run
 abbrev pub begins_a_run : List Text → Bool
 begins_a_run [] = false
 begins_a_run (w ∷ ws) = bytes_eq (codes "run") w
@@ -132,6 +144,7 @@ abbrev pub counted_in : Text → List Text → Option ℕ
 counted_in word (w ∷ n ∷ []) = if bytes_eq word w then whole_in n else None
 counted_in word ws = None
 
+-- the first line of a log
 abbrev pub is_head : List Text → Bool
 is_head (a ∷ b ∷ c ∷ []) = bytes_eq (codes "clpq") a && bytes_eq (codes "proof") b && bytes_eq (codes "1") c
 is_head ws = false
@@ -147,9 +160,11 @@ abbrev pub added : List Constraint → Linear → Run → Linear
 added l sum [] = sum
 added l sum (e ∷ r) = added l (sum_form sum (multiple l e)) r
 
+-- the multiples of the members of a run, added up
 abbrev pub sum_of : List Constraint → Run → Linear
 sum_of l r = added l (constant_form 0ℚ) r
 
+-- the numerator or the denominator does not fit
 abbrev pub exceeds : ℚ → Bool
 exceeds q = not (within (nat_abs q.numerator) && within (denominator q))
 
@@ -176,19 +191,23 @@ is_wide_behind l sum [] = false
 is_wide_behind l sum (e ∷ r) =
     multiple_exceeds e.1 (form_or_zero (member l e.0)) || join_exceeds sum (multiple l e) || is_wide_behind l (sum_form sum (multiple l e)) r
 
+-- some number on the way to the sum of a run does not fit
 abbrev pub is_wide : List Constraint → Run → Bool
 is_wide l r = is_wide_behind l (constant_form 0ℚ) r
 
 -- ---- certificates
 
+-- the first of the two compared is the lesser
 abbrev pub is_less : Ordering → Bool
 is_less Less = true
 is_less Equal = false
 is_less Greater = false
 
+-- the number is less than 0
 abbrev pub is_below_zero : ℚ → Bool
 is_below_zero q = is_less (cmp_ℚ q 0ℚ)
 
+-- the number is greater than 0
 abbrev pub is_above_zero : ℚ → Bool
 is_above_zero q = is_less (cmp_ℚ 0ℚ q)
 
@@ -199,23 +218,28 @@ allows Gt q = not (is_below_zero q)
 allows Ge q = not (is_below_zero q)
 allows Ne q = false
 
+-- the member is there, and may be multiplied so
 abbrev pub is_allowed_in : Option Constraint → ℚ → Bool
 is_allowed_in None q = false
 is_allowed_in (Some c) q = allows c.relation q
 
+-- each entry of a run is allowed
 abbrev pub are_allowed : List Constraint → Run → Bool
 are_allowed l r = list_all (λ e. is_allowed_in (member l e.0) e.1) r
 
+-- the relation is >
 abbrev pub is_strict : Relation → Bool
 is_strict Eq = false
 is_strict Gt = true
 is_strict Ge = false
 is_strict Ne = false
 
+-- the member is there, and strict
 abbrev pub is_strict_in : Option Constraint → Bool
 is_strict_in None = false
 is_strict_in (Some c) = is_strict c.relation
 
+-- some strict member has a multiplier above zero
 abbrev pub some_strict : List Constraint → Run → Bool
 some_strict l r = list_any (λ e. is_strict_in (member l e.0) && is_above_zero e.1) r
 
@@ -229,12 +253,14 @@ is_false_run l r =
 abbrev pub is_false_behind : List Constraint → ℕ × ℚ → Run → Bool
 is_false_behind l e r = are_allowed l r && is_empty (sum_of l (e ∷ r)).products && not (is_above_zero (sum_of l (e ∷ r)).constant)
 
+-- the relation is =\=
 abbrev pub is_disequation : Relation → Bool
 is_disequation Eq = false
 is_disequation Gt = false
 is_disequation Ge = false
 is_disequation Ne = true
 
+-- the member is there, and a disequation
 abbrev pub is_disequation_in : Option Constraint → Bool
 is_disequation_in None = false
 is_disequation_in (Some c) = is_disequation c.relation
@@ -268,10 +294,12 @@ abbrev pub listing : ℕ → ℕ → ℕ → List Constraint → State
 listing k zero seen l = Proving k l
 listing k (suc left) seen l = Listing k (suc left) seen l
 
+-- the end, if the number that it gives is that of the entries before it
 abbrev pub ended_if : ℕ → ℕ → Option ℕ → Found
 ended_if line k None = ends (Wrong line)
 ended_if line k (Some n) = if nat_eq n k then goes (Ended k) else ends (Wrong line)
 
+-- a list of so many members where the line begins one, else the end
 abbrev pub list_or : ℕ → ℕ → List Text → Option ℕ → Found
 list_or line k ws (Some n) = goes (listing k n 0 [])
 list_or line k ws None = ended_if line k (counted_in (codes "done") ws)
@@ -280,14 +308,17 @@ list_or line k ws None = ended_if line k (counted_in (codes "done") ws)
 abbrev pub between : ℕ → ℕ → List Text → Found
 between line k ws = list_or line k ws (counted_in (codes "list") ws)
 
+-- one member more, if the line is one
 abbrev pub listed : ℕ → ℕ → ℕ → ℕ → List Constraint → Option Constraint → Found
 listed line k left seen l None = ends (Wrong line)
 listed line k left seen l (Some c) = goes (listing k left (seen_after seen c.form.products) (l ++ c ∷ []))
 
+-- a first run, if the line is one and no sum in it is too wide
 abbrev pub proved : ℕ → ℕ → List Constraint → Option Run → Found
 proved line k l None = ends (Wrong line)
 proved line k l (Some r) = if is_wide l r then ends (Wide line) else goes (Proved k l r)
 
+-- a second run, which with the first is to refute the list
 abbrev pub proved_twice : ℕ → ℕ → List Constraint → Run → Option Run → Found
 proved_twice line k l r None = ends (Wrong line)
 proved_twice line k l r (Some s) =
@@ -317,5 +348,6 @@ check_from line st [] = Wrong line
 check_from line st (w ∷ []) = finish line st w
 check_from line st (w ∷ v ∷ ws) = elim (step line st (slice_split (λ b. b == 32) w)) [ goes next ↦ check_from (suc line) next (v ∷ ws) | ends v ↦ v ]
 
+-- what the check of a text finds, from its first line on
 abbrev pub verdict : Text → Verdict
 verdict text = check_from 1 Start (slice_split (λ b. b == 10) text)

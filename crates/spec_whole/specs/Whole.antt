@@ -10,6 +10,7 @@ use Rattle.spec_linear.specs.Extremes.{IsInfimum}
 
 -- ---- whole solutions
 
+-- the rational is a whole number
 pub record IsWhole (q : ℚ) : Type 0 where
   pub whole : ℤ
   pub is : q ≡ int_ℚ whole
@@ -23,15 +24,17 @@ pub record IsWholeInfimum (l : List Constraint) (xs : List ℕ) (f : Linear) (q 
   pub bound : (p : Point) → Solves p l → IsWholeOn xs p → q ≤ℚ value_at (number p) f
   pub greatest : (r : ℚ) → q <ℚ r → (p : Point) × Solves p l × IsWholeOn xs p × (value_at (number p) f <ℚ r)
 
+-- no solution is whole on these variables
 abbrev pub HasNoWhole : List Constraint → List ℕ → Type 0
 HasNoWhole l xs = (p : Point) → Solves p l → IsWholeOn xs p → ⊥
 
 -- ---- bounds
 
--- x =< q, and x >= q
+-- x =< q
 abbrev pub at_most : ℕ → ℚ → Constraint
 at_most x q = record { relation = Ge; form = difference_form (constant_form q) (variable_form x) }
 
+-- x >= q
 abbrev pub at_least : ℕ → ℚ → Constraint
 at_least x q = record { relation = Ge; form = difference_form (variable_form x) (constant_form q) }
 
