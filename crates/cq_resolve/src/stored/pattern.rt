@@ -26,7 +26,8 @@ pub(crate) fn pattern_of(
 ) -> Result<Vec<Part>, AllocError>
     requires { term < length heap.now.now.terms }
     ensures originals { OnOk result (numbers_of originals.new.keys ≡ variables_after (numbers_of originals.old.keys) (at heap.now.now.terms term)) }
-    ensures pattern { IfOk result (λ pattern. map shown pattern.items ≡ heads (apply (numbered_from 0 (numbers_of originals.new.keys)) (at heap.now.now.terms term))) }
+    ensures pattern { IfOk result (λ pattern. map shown pattern.items
+        ≡ heads (apply (numbered_from 0 (numbers_of originals.new.keys)) (at heap.now.now.terms term))) }
     ensures met { IfOk result (λ pattern. Written (length originals.old.keys) pattern.items (length originals.new.keys)) }
 {
     let mut pattern = Vec::new(heap.alloc());
