@@ -1,5 +1,5 @@
 -- The newest choice, as clauses that it leaves are tried one after another, and what is left of it.
-use Rattle.std.proofs.Common.{◌≡◌, ◌⊎◌, inl, inr, ℕ, suc, ◌<◌, List, [], ◌∷◌, length, Some, refl, sym, ap, ap₂, ◌∙◌, subst, arith, true}
+use Rattle.std.proofs.Common.{◌≡◌, ◌⊎◌, inl, inr, ℕ, suc, ◌<◌, List, [], ◌∷◌, length, Some, refl, sym, ap, ap₂, ◌∙◌, subst, arith, true, false}
 use Rattle.std.specs.Prelude.{All, reverse, slice_get}
 use Rattle.std.specs.List.{AllByRecursion, zip}
 use Rattle.std.proofs.lemmas.List.{length-reverse}
@@ -81,7 +81,7 @@ AreLeft content rest w others new = (HasNoneLeft true rest × (new ≡ others)) 
 pub are_left : (content : Alternatives) (rest : Walk) (w : Value Contents) (x : Alternatives) (others old new : Opened) → old ≡ (w, x) ∷ others → Leaves content rest old new
     → AreLeft content rest w others new
 are_left content rest w x others old new was (gone {c} none e) = inl (none, same-others c (w, x) new others (sym e ∙ was))
-are_left content rest w x others old new was (stays {c} {older = more} e f) =
+are_left content rest w x others old new was (stays {c} {older = more} some e f) =
     let first : c.0 ≡ w = ap (λ p. p.0) (same-first c (w, x) more others (sym e ∙ was)) in
     let same : more ≡ others = same-others c (w, x) more others (sym e ∙ was) in
     inr (f ∙ ap₂ (λ (z : Value Contents) (l : Opened). (z, content) ∷ l) first same)
@@ -95,18 +95,19 @@ cut_away content rest (c ∷ others) new height none long e =
     gone {c = c} none (ap (λ (l : Opened). c ∷ l) (sym same))
 
 -- put in its place
-put_there : (content : Alternatives) (rest : Walk) (vs : List (Value Contents)) (x : Alternatives) (xs : List Alternatives) → length vs ≡ length (x ∷ xs)
+put_there : (content : Alternatives) (rest : Walk) (vs : List (Value Contents)) (x : Alternatives) (xs : List Alternatives) → HasNoneLeft false rest → length vs ≡ length (x ∷ xs)
     → Leaves content rest (zip vs (x ∷ xs)) (zip vs (content ∷ xs))
-put_there content rest [] x xs long = absurd (omega (arith, long))
-put_there content rest (v ∷ vs) x xs long = stays {c = (v, x)} {older = zip vs xs} refl refl
+put_there content rest [] x xs some long = absurd (omega (arith, long))
+put_there content rest (v ∷ vs) x xs some long = stays {c = (v, x)} {older = zip vs xs} some refl refl
 
 -- the contents of the newest choice, where those of the choice with so many older ones were changed
-pub put_newest : (content : Alternatives) (rest : Walk) (saved : List (Value Contents)) (old new xs : List Alternatives) (x : Alternatives) → AreMarked saved old → old ≡ x ∷ xs
+pub put_newest : (content : Alternatives) (rest : Walk) (saved : List (Value Contents)) (old new xs : List Alternatives) (x : Alternatives) → HasNoneLeft false rest → AreMarked saved old
+    → old ≡ x ∷ xs
     → new ≡ content ∷ xs → Leaves content rest (open_choices saved old) (open_choices saved new)
-put_newest content rest saved old new xs x marked e f =
+put_newest content rest saved old new xs x some marked e f =
     subst (λ (l : List Alternatives). Leaves content rest (open_choices saved l) (open_choices saved new)) (sym e)
     (subst (λ (l : List Alternatives). Leaves content rest (open_choices saved (x ∷ xs)) (open_choices saved l)) (sym f)
-    (put_there content rest (reverse saved) x xs (omega (arith, length-reverse saved, marked, ap length e))))
+    (put_there content rest (reverse saved) x xs some (omega (arith, length-reverse saved, marked, ap length e))))
 
 -- the same over the world that it goes back to
 pub replaced : (saved : List (Value Contents)) (old new xs : List Alternatives) (x content : Alternatives) (w : Value Contents) (others : Opened) → old ≡ x ∷ xs → new ≡ content ∷ xs

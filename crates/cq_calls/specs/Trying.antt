@@ -1,5 +1,5 @@
 -- What becomes of the newest choice as the clauses of its call are tried.
-use Rattle.std.specs.Prelude.{◌≡◌, ℕ, List, ◌∷◌, true}
+use Rattle.std.specs.Prelude.{◌≡◌, ℕ, List, ◌∷◌, true, false}
 use Rattle.cq_clauses.specs.Walks.{HasNoneLeft, IsWalk}
 use Rattle.cq_clauses.specs.declared.walk.Walk.{Walk}
 use Rattle.cq_control.specs.Open.{open_choices}
@@ -23,10 +23,10 @@ IsOfCall choices = (goal : ℕ) × (walk : Walk) × (rest : ℕ) × HasLeft goal
 abbrev pub IsGone : List Alternatives → List Alternatives → Type 0
 IsGone old new = (c : Alternatives) × (old ≡ c ∷ new)
 
--- The newest choice leaves this to try, by the clauses that the walk leaves. Without any the choice is gone.
+-- The newest choice leaves this to try where the walk leaves clauses. Without any the choice is gone.
 pub data Leaves (content : Alternatives) (walk : Walk) (old new : List (Value Contents × Alternatives)) : Type 0 where
   gone : {c : Value Contents × Alternatives} → HasNoneLeft true walk → old ≡ c ∷ new → Leaves content walk old new
-  stays : {c : Value Contents × Alternatives} {older : List (Value Contents × Alternatives)} → old ≡ c ∷ older
+  stays : {c : Value Contents × Alternatives} {older : List (Value Contents × Alternatives)} → HasNoneLeft false walk → old ≡ c ∷ older
       → new ≡ (c.0, content) ∷ older → Leaves content walk old new
 
 -- ---- a clause that is tried

@@ -24,4 +24,4 @@ pub returns-else-is_empty-clause-leaves : goal.returns-else-is_empty-clause-leav
 returns-else-is_empty-clause-leaves c =
     let changed = c.renew.ensures in
     put_newest c.args.others c.args.left.now (saved_values c.args.world.now.first c.args.world.now.second.saved) c.args.choices.now c.renew.new.self changed.1 changed.0
-    c.requires.marked changed.2 changed.3
+    (subst (λ b. HasNoneLeft b c.args.left.now) c.if-is_empty.false c.is_empty.ensures) c.requires.marked changed.2 changed.3

@@ -1,4 +1,4 @@
-use Rattle.std.proofs.Common.{◌≡◌, ◌∷◌, List, length, Some, refl, sym, ap, ap₂, ◌∙◌, arith, subst}
+use Rattle.std.proofs.Common.{◌≡◌, ◌∷◌, List, length, Some, refl, sym, ap, ap₂, ◌∙◌, arith, subst, inr}
 use Rattle.std.specs.Prelude.{slice_get, Err}
 use Rattle.cq_clauses.specs.declared.walk.Walk.{Walk}
 use Rattle.cq_control.specs.Items.{ContinuationsValue}
@@ -18,7 +18,7 @@ use Rattle.cq_branch.proofs.Budgets.{same_budget}
 use Rattle.cq_branch.proofs.Older.{newest_gone}
 use Rattle.cq_branch.proofs.Back.{back_still}
 use Rattle.cq_calls.specs.Trying.{Leaves}
-use Rattle.cq_calls.proofs.Left.{Opened, AreLeft, opened_is, same-first, open_same, marked_same, of_content, are_left, open_still, put_newest, same-others}
+use Rattle.cq_calls.proofs.Left.{Opened, AreLeft, opened_is, same-first, open_same, marked_same, of_content, are_left, open_still, replaced, same-others}
 use Rattle.cq_catch.proofs.MatchingNewest.{is_walk, arrives_past, fewer_past, open_past, begins_ready, begins_asked, begins_rule, begins_rest, arrives_left, arrives_pruned, fewer_wait, open_left, fault_stops}
 use Rattle.cq_catch.proofs.matching.matching.compare_next.Goals as goal
 use Rattle.cq_catch.proofs.matching.matching.compare_next.Goals.{After-back, After-resume, After-clause-clause, After-leave_untried, After-renew}
@@ -114,6 +114,15 @@ module _ (c : After-resume) where
   left_then w lists e f left o l =
       are_left (Matches c.args.asked left c.args.removes c.args.rest) left (back c) (Matches c.args.asked c.args.walk c.args.removes c.args.rest) (others c) (open_choices (saved_values w lists.saved) c.args.choices.now) o
       (open_same c.resume.new.world.first w c.resume.new.world.second.saved lists.saved c.args.choices.now _ e f (still c)) l
+
+  -- the same where other clauses were put in place of those that it had
+  replaced_then : (w : World) (lists : ContinuationsValue Cell) → saved_of w ≡ saved_of c.resume.new.world.first → lists.saved ≡ c.resume.new.world.second.saved → (left : Walk)
+      (new : List Alternatives) → new ≡ Matches c.args.asked left c.args.removes c.args.rest ∷ c.requires.newest.0
+      → AreLeft (Matches c.args.asked left c.args.removes c.args.rest) left (back c) (others c) (open_choices (saved_values w lists.saved) new)
+  replaced_then w lists e f left new put =
+      inr (replaced (saved_values w lists.saved) c.args.choices.now new c.requires.newest.0 (Matches c.args.asked c.args.walk c.args.removes c.args.rest)
+      (Matches c.args.asked left c.args.removes c.args.rest) (back c) (others c) c.requires.newest.1 put
+      (open_same c.resume.new.world.first w c.resume.new.world.second.saved lists.saved c.args.choices.now _ e f (still c)))
 
   marked_then : (w : World) (lists : ContinuationsValue Cell) → saved_of w ≡ saved_of c.resume.new.world.first → lists.saved ≡ c.resume.new.world.second.saved
       → AreMarked (saved_values w lists.saved) c.args.choices.now
@@ -215,25 +224,16 @@ put_back c =
     ∙ ap₂ (λ (x : Walk) (older : List Alternatives). Matches c.args.asked x c.args.removes c.args.rest ∷ older) c.new-untried.ensures
     (same-others changed.0 (Matches c.args.asked c.args.walk c.args.removes c.args.rest) changed.1 c.requires.newest.0 (sym changed.2 ∙ c.requires.newest.1))
 
-leaves_others : (c : After-renew) → AreMarked (saved_values c.begin_match.new.world c.begin_match.new.lists.saved) c.args.choices.now
-    → Leaves (Matches c.args.asked c.step.new.walk c.args.removes c.args.rest) c.step.new.walk (open_choices (saved_values c.begin_match.new.world c.begin_match.new.lists.saved) c.args.choices.now)
-    (open_choices (saved_values c.begin_match.new.world c.begin_match.new.lists.saved) c.renew.new.self)
-leaves_others c marked =
-    put_newest (Matches c.args.asked c.step.new.walk c.args.removes c.args.rest) c.step.new.walk (saved_values c.begin_match.new.world c.begin_match.new.lists.saved) c.args.choices.now c.renew.new.self
-    c.requires.newest.0 (Matches c.args.asked c.args.walk c.args.removes c.args.rest) marked c.requires.newest.1 (put_back c)
-
 pub returns-in-Pruned-clause-comes : goal.returns-in-Pruned-clause-comes
 returns-in-Pruned-clause-comes c = λ steps db n s j.
     let r = (goal.at.returns-in-Pruned-clause-comes c).After-resume in
     let x = (goal.at.returns-in-Pruned-clause-comes c).After-renew in
     let saved = saved_values c.begin_match.new.world c.begin_match.new.lists.saved in
-    let marked = marked_then r c.begin_match.new.world c.begin_match.new.lists c.in-Ok.ensures.saved c.in-Ok.ensures.lists in
     let later = value c.begin_match.new.world c.begin_match.new.lists.now in
     arrives_pruned c.args.atoms.now c.args.clauses.now (before r) c.args.choices.now (now r) (back r) c.args.asked c.args.removes c.args.rest c.args.walk (others r) (was r)
     c.step.new.walk c.in-Some.number c.in-Some.ensures.some db n s j c.clause-clause.result.now (kept_is (goal.at.returns-in-Pruned-clause-comes c).After-clause-clause)
     (rw c.in-Pruned.is at c.in-Ok.ensures.pruned) saved c.renew.new.self later steps
-    (left_then r c.begin_match.new.world c.begin_match.new.lists c.in-Ok.ensures.saved c.in-Ok.ensures.lists c.step.new.walk (open_choices saved c.renew.new.self)
-    (leaves_others x marked))
+    (replaced_then r c.begin_match.new.world c.begin_match.new.lists c.in-Ok.ensures.saved c.in-Ok.ensures.lists c.step.new.walk c.renew.new.self (put_back x))
 
 pub returns-in-Pruned-clause-left : goal.returns-in-Pruned-clause-left
 returns-in-Pruned-clause-left c =
@@ -244,11 +244,9 @@ returns-in-Pruned-clause-fewer c =
     let r = (goal.at.returns-in-Pruned-clause-fewer c).After-resume in
     let x = (goal.at.returns-in-Pruned-clause-fewer c).After-renew in
     let saved = saved_values c.begin_match.new.world c.begin_match.new.lists.saved in
-    let marked = marked_then r c.begin_match.new.world c.begin_match.new.lists c.in-Ok.ensures.saved c.in-Ok.ensures.lists in
     fewer_wait c.args.atoms.now c.args.clauses.now (before r) c.args.choices.now (now r) (back r) c.args.asked c.args.removes c.args.rest c.args.walk (others r) (was r)
     c.step.new.walk c.in-Some.number c.in-Some.ensures.some saved c.renew.new.self
-    (left_then r c.begin_match.new.world c.begin_match.new.lists c.in-Ok.ensures.saved c.in-Ok.ensures.lists c.step.new.walk (open_choices saved c.renew.new.self)
-    (leaves_others x marked))
+    (replaced_then r c.begin_match.new.world c.begin_match.new.lists c.in-Ok.ensures.saved c.in-Ok.ensures.lists c.step.new.walk c.renew.new.self (put_back x))
 
 pub returns-in-Pruned-clause-marked : goal.returns-in-Pruned-clause-marked
 returns-in-Pruned-clause-marked c =
@@ -261,11 +259,9 @@ returns-in-Pruned-clause-open c =
     let r = (goal.at.returns-in-Pruned-clause-open c).After-resume in
     let x = (goal.at.returns-in-Pruned-clause-open c).After-renew in
     let saved = saved_values c.begin_match.new.world c.begin_match.new.lists.saved in
-    let marked = marked_then r c.begin_match.new.world c.begin_match.new.lists c.in-Ok.ensures.saved c.in-Ok.ensures.lists in
     open_left c.args.atoms.now c.args.clauses.now (before r) c.args.choices.now (now r) (back r) c.args.asked c.args.removes c.args.rest c.args.walk (others r) (was r)
     saved c.renew.new.self c.step.new.walk c.in-Some.ensures.opened c.requires.open
-    (left_then r c.begin_match.new.world c.begin_match.new.lists c.in-Ok.ensures.saved c.in-Ok.ensures.lists c.step.new.walk (open_choices saved c.renew.new.self)
-    (leaves_others x marked))
+    (replaced_then r c.begin_match.new.world c.begin_match.new.lists c.in-Ok.ensures.saved c.in-Ok.ensures.lists c.step.new.walk c.renew.new.self (put_back x))
 
 pub returns-in-Pruned-clause-budget : goal.returns-in-Pruned-clause-budget
 returns-in-Pruned-clause-budget c = c.in-Ok.ensures.budget ∙ same_exchanges (goal.at.returns-in-Pruned-clause-budget c).After-resume
