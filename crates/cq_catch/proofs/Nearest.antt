@@ -1,7 +1,5 @@
 -- The nearest end of a catch, and the choice that it speaks of.
-use Rattle.std.proofs.Common.{◌≡◌, ◌<◌, ℕ, List, ◌∷◌, length, Option, None, Some, Bool, true, false, not, sym, ap, ◌∙◌, arith}
-use Rattle.std.specs.Prelude.{Ok, IfNone, IfSome, is_some}
-use Rattle.std.specs.declared.result.Result.{Result}
+use Rattle.std.proofs.Common.{◌≡◌, ◌<◌, ℕ, List, ◌∷◌, length, sym, ◌∙◌, arith}
 use Rattle.cq_control.specs.Items.{items_at}
 use Rattle.cq_control.specs.Open.{AreMarked}
 use Rattle.cq_settle.specs.Contents.{Contents}
@@ -24,13 +22,3 @@ within saved choices now from marked e near w =
 -- the newest of choices is one
 pub same_newest : {A : Type 0} (x y : A) (xs ys zs : List A) → zs ≡ x ∷ xs → zs ≡ y ∷ ys → x ≡ y
 same_newest x y xs ys zs e f = let h : x ∷ xs ≡ y ∷ ys = sym e ∙ f in cc
-
--- ---- what holds by whether there is a value
-
-pub told_none : {A E P : Type 0} (r : Option A) (b : Bool) → is_some r ≡ not b → ◌≡◌ {A = Result Bool E} (Ok b) (Ok true) → IfNone r P → P
-told_none None b e o p = p
-told_none (Some x) b e o p = (let h : b ≡ true = cc in let k : true ≡ false = e ∙ ap not h in cc)
-
-pub told_some : {A E P : Type 0} (r : Option A) (b : Bool) → is_some r ≡ not b → ◌≡◌ {A = Result Bool E} (Ok b) (Ok false) → IfSome r (λ _. P) → P
-told_some None b e o p = (let h : b ≡ false = cc in let k : false ≡ true = e ∙ ap not h in cc)
-told_some (Some x) b e o p = p

@@ -3,13 +3,11 @@
 
 // A ball goes to the nearest catch outwards.
 
-ghost use Rattle.std.specs.Prelude.{◌≡◌, ◌≢◌, ◌<◌, ◌≤◌, ◌∷◌, ℕ, List, None, Some, Ok, length, false, true, IfNone, IfSome};
+ghost use Rattle.std.specs.Prelude.{◌≡◌, ◌<◌, ◌≤◌, ◌∷◌, ℕ, List, None, Some, length, IfNone, IfSome};
 ghost use Rattle.spec_numbers.specs.Texts.{Text};
-ghost use Rattle.spec_branch.specs.Branch.{State, Item, Branch, plain_copy};
 ghost use Rattle.cq_control.specs.Items.{items_at};
 ghost use Rattle.cq_control.specs.Open.{AreMarked, last};
 ghost use Rattle.cq_resolve.specs.Database.{Program};
-ghost use Rattle.cq_term.specs.Trees.{tree, KnowsTerms};
 ghost use Rattle.cq_settle.specs.Contents.{Contents};
 ghost use Rattle.cq_settle.specs.Worlds.{now_of};
 ghost use Rattle.spec_engine.specs.declared.machine.cell.Cell.{Cell};
@@ -17,14 +15,13 @@ ghost use Rattle.spec_engine.specs.Cells.{Caught, Value, catch_at, nearest_catch
 ghost use Rattle.cq_branch.specs.Choices.{AreOpen};
 ghost use Rattle.cq_branch.specs.Stored.{IsCountedTerm, stored_tree};
 ghost use Rattle.cq_branch.specs.Worlds.{value, saved_values, stack};
-ghost use Rattle.cq_catch.specs.Balls.{ComesUp, ComesUpSomewhere, IsCaughtBy, HandsBall, Misses, HasBall, HasCatch, IsNearest};
+ghost use Rattle.cq_catch.specs.Balls.{ComesUpSomewhere, HandsBall, Misses, HasBall, HasCatch, IsNearest};
 
 use cq_branch::{Alternatives, Searching};
 use cq_control::{Choices, Continuation, Continuations};
 use cq_resolve::stored::StoredTerm;
 use cq_term::TermId;
 use spec_engine::machine::Cell;
-use std::alloc::AllocError;
 
 /// Hands a ball to the nearest end of a catch behind a continuation: the newer choices are cut, and the choice of the catch has
 /// the ball then; the search is to come back to it at once. Where there is no such end nothing changes, and the ball is given back.
@@ -138,38 +135,4 @@ fn give(world: &mut Searching, choices: &mut Choices<Alternatives>, ball: Stored
     let rest = *behind;
     let given = Alternatives::Caught(ball, end.catcher, end.recovery, rest);
     choices.retry(world, given);
-}
-
-/// A ball that a goal raises is copied, and handed to the nearest catch behind a continuation. False where nothing catches it; then,
-/// and after want of memory, nothing has changed.
-pub fn throw(
-    world: &mut Searching,
-    choices: &mut Choices<Alternatives>,
-    ball: TermId,
-    from: Continuation,
-) -> Result<bool, AllocError>
-    requires ball { ball < length world.old.first.heap.now.terms }
-    requires marked { AreMarked (saved_values world.old.first world.old.second.saved) choices.old }
-    requires comes_up { ComesUpSomewhere (saved_values world.old.first world.old.second.saved) choices.old
-        (value world.old.first world.old.second.now) from }
-    ensures caught { result ≡ Ok true → (texts : List Text) (v : Program) (items : List Item) (st : State) (behind : List Branch)
-        → ComesUp texts (stack texts v (saved_values world.old.first world.old.second.saved) choices.old)
-        (value world.old.first world.old.second.now) from items st behind
-        → IsCaughtBy texts (stack texts v (saved_values world.new.first world.new.second.saved) choices.new)
-        (plain_copy (tree texts world.old.first.heap.now.terms ball)) items behind }
-    ensures missed { result ≡ Ok false → Misses (saved_values world.old.first world.old.second.saved) choices.old
-        (value world.old.first world.old.second.now) from }
-    ensures open { (texts : List Text) (v : Program) → KnowsTerms texts world.old.first.heap.now.terms
-        → AreOpen texts v (saved_values world.old.first world.old.second.saved) choices.old
-        → AreOpen texts v (saved_values world.new.first world.new.second.saved) choices.new }
-    ensures no_more { length choices.new ≤ length choices.old }
-    ensures same { result ≢ Ok true → choices.new ≡ choices.old }
-    ensures same_saved { result ≢ Ok true → saved_values world.new.first world.new.second.saved
-        ≡ saved_values world.old.first world.old.second.saved }
-    ensures same_now { result ≢ Ok true → now_of world.new.first ≡ now_of world.old.first }
-    ensures marked { AreMarked (saved_values world.new.first world.new.second.saved) choices.new }
-    ensures budget { world.new.first.store.pivots ≡ world.old.first.store.pivots }
-{
-    let copy = StoredTerm::of(&world.first.heap, ball)?;
-    Ok(hand(world, choices, copy, from).is_none())
 }

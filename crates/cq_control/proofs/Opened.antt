@@ -35,13 +35,6 @@ take-length (x ∷ xs) (suc n) le = ap (λ ys. x ∷ ys) (take-length xs n (omeg
 pub take-last : {X : Type 0} (xs : List X) (n : ℕ) (x : X) → length xs ≡ suc n → slice_get xs n ≡ Some x → xs ≡ take n xs ++ x ∷ []
 take-last xs n x l e = sym (take-length xs (suc n) (omega (arith, l))) ∙ take-one-more xs n x e
 
--- the one that has n older ones
-pub last-at : {X : Type 0} (xs : List X) (n : ℕ) (x : X) → slice_get xs n ≡ Some x → last (n + 1) (reverse xs) ≡ x ∷ last n (reverse xs)
-last-at xs n x e =
-    let one : n + 1 ≡ suc n = omega arith in
-    ap (λ m. last m (reverse xs)) one ∙ last-reverse (suc n) xs ∙ ap reverse (take-one-more xs n x e) ∙ reverse-push (take n xs) x
-    ∙ ap (λ ys. x ∷ ys) (sym (last-reverse n xs))
-
 split_at : {X : Type 0} (xs : List X) (i : ℕ) (x y : X) → slice_get xs i ≡ Some x → (xs ≡ take i xs ++ x ∷ drop (suc i) xs) × (slice_set xs i y ≡ take i xs ++ y ∷ drop (suc i) xs)
 split_at [] i x y e = absurd (none-some x e)
 split_at (z ∷ zs) zero x y e = (ap (λ w. w ∷ zs) (same_Some z x e), refl)

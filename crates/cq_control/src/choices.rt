@@ -120,21 +120,6 @@ impl<C: Drop> Choices<C> {
         Some(content)
     }
 
-    /// Takes the choices from a height on off, undoes the world to the oldest of them, and gives what that one left to try.
-    pub fn back_to<W: Undo>(&mut self, world: &mut W, height: usize) -> C
-        requires marked { AreMarked (W.saved world.old) self.old }
-        requires within { height < length self.old }
-        ensures contents { last (height + 1) self.old ≡ result ∷ self.new }
-        ensures open { last (height + 1) (open_choices (W.saved world.old) self.old)
-            ≡ (W.now world.new, result) ∷ open_choices (W.saved world.new) self.new }
-        ensures room { W.room world.old ≤ W.room world.new }
-        ensures marked { AreMarked (W.saved world.new) self.new }
-    {
-        self.contents.truncate(height + 1);
-        world.undo(Mark { number: height });
-        self.contents.pop().unwrap()
-    }
-
     /// Keeps the choices below a height and the world's value. The marks of the others end: it takes constant time for each
     /// choice that is taken away.
     pub fn cut<W: Undo>(&mut self, world: &mut W, height: usize)
@@ -159,14 +144,6 @@ impl<C: Drop> Choices<C> {
     {
         let number = self.contents.len() - 1;
         self.contents[number] = content;
-    }
-
-    /// What the choice with so many older ones leaves to try.
-    pub fn at(&self, height: usize) -> &C
-        requires { height < length self.now }
-        ensures { last (height + 1) self.now ≡ result.now ∷ last height self.now }
-    {
-        &self.contents[height]
     }
 
     /// Puts other contents in place of what the choice with so many older ones leaves to try, and gives those.
