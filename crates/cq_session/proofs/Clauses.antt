@@ -1,10 +1,10 @@
 -- Clauses and errors of a text, as steps of a session.
-use Rattle.std.proofs.Common.{◌≡◌, ◌≤◌, ◌∙◌, ℕ, List, [], ◌∷◌, ◌++◌, length, Bool, true, false, if◌then◌else◌, Option, Some, None, inl, inr, refl, sym, ap, subst}
+use Rattle.std.proofs.Common.{◌≡◌, ◌<◌, ◌≤◌, ◌∙◌, ℕ, List, [], ◌∷◌, ◌++◌, length, Bool, true, false, if◌then◌else◌, Option, Some, None, inl, inr, refl, sym, ap, subst}
 use Rattle.std.specs.Prelude.{bytes_eq, codes}
 use Rattle.cq_outside.specs.Bytes.{Adds, Appends, Begins}
 use Rattle.cq_read.specs.Inputs.{Input}
 use Rattle.spec_numbers.specs.Texts.{Text}
-use Rattle.spec_text.specs.Decided.{Decided}
+use Rattle.spec_text.specs.Decided.{Decided, IsClosed}
 use Rattle.spec_text.specs.Readings.{Read, Reads, Clause, Ended, Syntax}
 use Rattle.spec_text.proofs.Decides.{decided_when_closed}
 use Rattle.spec_terms.specs.Term.{Var, Number, Name, Compound, one, more}
@@ -25,7 +25,7 @@ use Rattle.spec_transcript.specs.declared.Source.{Source}
 use Rattle.spec_transcript.specs.declared.Source.TheVariants as source
 use Rattle.cq_session.specs.Sentences.{Program, IsSettled, IsFor}
 use Rattle.cq_session.specs.Progress.{RunsIn, Advanced, Broken}
-use Rattle.cq_session.specs.Texts.{IsAt, StandsAt}
+use Rattle.cq_session.specs.Texts.{IsAt, StandsAt, StopsShort}
 use Rattle.cq_session.proofs.Steps.{one_step, at_start, advanced_more, advanced_both, advanced_quietly, broken_more, write_fails, both_unmarked}
 
 -- ---- what stands there
@@ -36,6 +36,20 @@ ends_finished p input fits h = elim h.settled [ inl f ↦ f | inr d ↦ absurd (
   where
     closed : Decided p.database.operators input.bytes input.place → ⊥
     closed d = (decided_when_closed p.database.operators input.bytes input.place Ended fits h.reads).0 d
+
+-- what is decided is read before the end of the bytes, where more may come
+pub goes_short : (p : Program) (old new : Input) (r : Read) → old.place ≤ length old.bytes → IsSettled p.database.operators old r
+    → (IsClosed r (length old.bytes) → new.place < length old.bytes) → new.bytes ≡ old.bytes → new.finished ≡ old.finished → StopsShort old → StopsShort new
+goes_short p old new r fits h closed bytes finished short = λ unfinished. inr (subst (λ l. new.place < length l) (sym bytes) (closed (elim h.settled [ inl f ↦ absurd (more_come unfinished f) | inr d ↦ before d ])))
+  where
+    more_come : new.finished ≡ false → old.finished ≡ true → ⊥
+    more_come unfinished f = let no : true ≡ false = sym f ∙ sym finished ∙ unfinished in cc
+
+    before : Decided p.database.operators old.bytes old.place → IsClosed r (length old.bytes)
+    before d = (decided_when_closed p.database.operators old.bytes old.place r fits h.reads).0 d
+
+pub stays_short : (old new : Input) → new.place ≡ old.place → new.bytes ≡ old.bytes → new.finished ≡ old.finished → StopsShort old → StopsShort new
+stays_short old new place bytes finished short = rw (finished, place, bytes) short
 
 -- no clause of the input waits
 directs : (b c : Bool) (t u g : Tree) → (if b then purposes.Directive t else if c then purposes.Query t else purposes.Query u) ≡ purposes.Initialization g → ⊥

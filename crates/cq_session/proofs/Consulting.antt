@@ -53,14 +53,14 @@ module _ (b : Budgets) (o : Outside) (a c : Session) (m : Marks) (held mid now :
     database = h.database;
     reader = h.reader;
     is_input = h.is_input;
-    within = h.within;
+    short = h.short;
     undecided = h.undecided;
     marks = both m h.marks;
     advanced = advanced_both b o a c m held mid before (Reading h.database h.reader) h.marks now h.advanced;
   }
 
   taken_behind : (left : List ℕ) → ReadsTaken b o c left mid now → ReadsTaken b o a left held now
-  taken_behind left h = record { taken = h.taken; split = h.split; all = reads_behind h.taken h.all }
+  taken_behind left h = record { taken = h.taken; split = h.split; small = h.small; all = reads_behind h.taken h.all }
 
   passes_behind : (left : List ℕ) → PassesLimit b o c left mid now → PassesLimit b o a left held now
   passes_behind left h = record { taken = h.taken; split = h.split; large = h.large; all = reads_behind (take SIZE_LIMIT h.taken) h.all }

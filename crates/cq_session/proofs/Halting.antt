@@ -47,7 +47,7 @@ module _ (o : Outside) (a : Asked) (held now : Option (List ℕ)) where
     database = h.database;
     reader = h.reader;
     is_input = h.is_input;
-    within = h.within;
+    short = h.short;
     undecided = h.undecided;
     marks = h.marks;
     runs = h.advanced.runs;
@@ -86,6 +86,6 @@ module _ (o : Outside) (a : Asked) (held now : Option (List ℕ)) where
       ends_with left bytes TooMuchInput h.all.advanced.text is (ending.large_input h.taken h.split h.large (reads (take SIZE_LIMIT h.taken) h.all)) h.all.advanced.written
   halts left Read (inl (name, h)) = ends_anyhow left Read h.advanced.text (λ bytes. ending.file_fault (comes name h)) h.advanced.written
   halts left Read (inr (bytes, is, h)) =
-      ends_with left bytes Read h.all.advanced.text is (ending.input_fault h.taken h.split (reads h.taken h.all)) h.all.advanced.written
+      ends_with left bytes Read h.all.advanced.text is (ending.input_fault h.taken h.split h.small (reads h.taken h.all)) h.all.advanced.written
   halts left Write (text, h, w) = ends_anyhow left Write text (λ bytes. ending.write_fault (begun text h)) w
   halts left Memory (text, h, w) = ends_anyhow left Memory text (λ bytes. ending.no_memory (begun text h)) w

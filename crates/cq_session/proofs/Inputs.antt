@@ -1,5 +1,5 @@
 -- The transcript of the input, as steps of a session.
-use Rattle.std.proofs.Common.{◌≡◌, ◌≤◌, ◌<◌, ◌+◌, ◌∙◌, ℕ, suc, List, [], ◌∷◌, ◌++◌, length, take, drop, Bool, true, false, Option, Some, None, Err, IfSome, inr, refl, sym, ap, subst, append-nil, append_assoc, arith, length-append}
+use Rattle.std.proofs.Common.{◌≡◌, ◌⊎◌, ◌≤◌, ◌<◌, ◌+◌, ◌∙◌, ℕ, suc, List, [], ◌∷◌, ◌++◌, length, take, drop, Bool, true, false, Option, Some, None, Err, IfSome, inl, inr, refl, sym, ap, subst, append-nil, append_assoc, arith, length-append}
 use Rattle.std.proofs.lemmas.List.{take-append-drop}
 use Rattle.std.specs.Io.KnownBytes.{Consumes, IsAtEnd, Keeps}
 use Rattle.cq_outside.specs.Whole.{TakesBytes}
@@ -20,7 +20,7 @@ use Rattle.cq_session.specs.declared.transcript.reading.Pause.{Pause}
 use Rattle.cq_session.specs.declared.transcript.reading.Pause.TheVariants.{Needs, End}
 use Rattle.cq_session.specs.Sentences.{Program}
 use Rattle.cq_session.specs.Progress.{Advanced, Broken}
-use Rattle.cq_session.specs.Texts.{IsAt, StandsAt, IsPause}
+use Rattle.cq_session.specs.Texts.{IsAt, StandsAt, StopsShort, IsPause}
 use Rattle.cq_session.specs.Pieces.{CountsReads, HasReadInput, IsUnread}
 use Rattle.cq_session.specs.Breaks.{Breaks, ReadsAll, ReadsTaken}
 use Rattle.cq_session.proofs.Steps.{one_step, at_start, advanced_both, advanced_quietly, memory_here, broken_more}
@@ -82,6 +82,17 @@ unfinished_yet P a b c e f g h = let no : true ≡ false = sym h ∙ e ∙ f ∙
 pub undecided_yet : (x : Pause) (q : Program) (text : Input) → IsPause x q text → text.finished ≡ false → Decided q.database.operators text.bytes text.place → ⊥
 undecided_yet Needs q text h e d = h.1 d
 undecided_yet End q text h e d = let no : true ≡ false = sym h.0 ∙ e in cc
+
+-- with more bytes behind it a text stops short as before
+pub short_more : (old new : Input) (bytes : List ℕ) → StopsShort old → old.finished ≡ false → new.place ≡ old.place → new.bytes ≡ old.bytes ++ bytes → StopsShort new
+short_more old new bytes short unfinished place same = λ f. elim (short unfinished) [ inl z ↦ inl (place ∙ z) | inr h ↦ inr (omega (arith, n, place, h)) ]
+  where
+    n : length new.bytes ≡ length old.bytes + length bytes
+    n = ap length same ∙ length-append old.bytes bytes
+
+-- no more bytes come
+pub short_at_end : (new : Input) → new.finished ≡ true → StopsShort new
+short_at_end new f unfinished = let no : true ≡ false = sym f ∙ unfinished in cc
 
 -- more was taken than there was room for
 pub split_more : (xs ys rest : List ℕ) (room : ℕ) → (xs ++ ys) ++ rest ≡ (xs ++ take room ys) ++ (drop room ys ++ rest)
@@ -155,35 +166,35 @@ module _ (b : Budgets) (o : Outside) (from : Session) (m : Marks) (p : Program) 
 
   -- ---- ends
 
-  pub reads_all : text.place ≤ length text.bytes → (Decided p.database.operators text.bytes text.place → ⊥) → ReadsAll b o from text.bytes held mid
-  reads_all fits undecided = record {
+  pub reads_all : (text.place ≡ 0) ⊎ (text.place < length text.bytes) → (Decided p.database.operators text.bytes text.place → ⊥) → ReadsAll b o from text.bytes held mid
+  reads_all short undecided = record {
     database = p.database;
     reader = stands.reader;
     is_input = stands.source;
-    within = subst (λ n. n ≤ length text.bytes) (sym stands.at) fits;
+    short = subst (λ n. (n ≡ 0) ⊎ (n < length text.bytes)) (sym stands.at) short;
     undecided = λ d. undecided (subst (λ n. Decided p.database.operators text.bytes n) stands.at d);
     marks = m;
     advanced = stands.advanced;
   }
 
   -- a read failed
-  pub read_fails : (left now_left : Option (List ℕ)) → Rests o left text.bytes → Keeps left now_left → text.place ≤ length text.bytes
-      → (Decided p.database.operators text.bytes text.place → ⊥) → Breaks b o now_left from Read held mid
-  read_fails left now_left rest keeps fits undecided = inr (go now_left refl (subst (λ l. Keeps l now_left) rest.left keeps))
+  pub read_fails : (left now_left : Option (List ℕ)) → Rests o left text.bytes → Keeps left now_left → length text.bytes ≤ SIZE_LIMIT
+      → (text.place ≡ 0) ⊎ (text.place < length text.bytes) → (Decided p.database.operators text.bytes text.place → ⊥) → Breaks b o now_left from Read held mid
+  read_fails left now_left rest keeps small short undecided = inr (go now_left refl (subst (λ l. Keeps l now_left) rest.left keeps))
     where
       go : (l : Option (List ℕ)) → now_left ≡ l → Keeps (Some rest.rest) l → (bytes : List ℕ) × (now_left ≡ Some bytes) × ReadsTaken b o from bytes held mid
-      go (Some ys) is same = (ys, is, record { taken = text.bytes; split = rest.split ∙ ap (λ l. text.bytes ++ l) (sym same); all = reads_all fits undecided })
+      go (Some ys) is same = (ys, is, record { taken = text.bytes; split = rest.split ∙ ap (λ l. text.bytes ++ l) (sym same); small = small; all = reads_all short undecided })
       go None is same = absurd same
 
   -- what stands in the way of a piece
   pub piece_breaks : (left now_left : Option (List ℕ)) (T : Type 0) (before after : ℕ) (halt : Halt) → Rests o left text.bytes → IsUnread left now_left halt
-      → CountsReads {T = T} before after (Err halt) → text.place ≤ length text.bytes → (Decided p.database.operators text.bytes text.place → ⊥) → Breaks b o now_left from halt held mid
-  piece_breaks left now_left T before after Read rest keeps cause fits undecided = read_fails left now_left rest keeps fits undecided
-  piece_breaks left now_left T before after Memory rest keeps cause fits undecided = memory_wanted now_left
-  piece_breaks left now_left T before after Write rest keeps cause fits undecided = absurd cause
-  piece_breaks left now_left T before after (Absent name) rest keeps cause fits undecided = absurd cause
-  piece_breaks left now_left T before after (TooLarge name) rest keeps cause fits undecided = absurd cause
-  piece_breaks left now_left T before after TooMuchInput rest keeps cause fits undecided = absurd cause
+      → CountsReads {T = T} before after (Err halt) → length text.bytes ≤ SIZE_LIMIT → (text.place ≡ 0) ⊎ (text.place < length text.bytes) → (Decided p.database.operators text.bytes text.place → ⊥) → Breaks b o now_left from halt held mid
+  piece_breaks left now_left T before after Read rest keeps cause small short undecided = read_fails left now_left rest keeps small short undecided
+  piece_breaks left now_left T before after Memory rest keeps cause small short undecided = memory_wanted now_left
+  piece_breaks left now_left T before after Write rest keeps cause small short undecided = absurd cause
+  piece_breaks left now_left T before after (Absent name) rest keeps cause small short undecided = absurd cause
+  piece_breaks left now_left T before after (TooLarge name) rest keeps cause small short undecided = absurd cause
+  piece_breaks left now_left T before after TooMuchInput rest keeps cause small short undecided = absurd cause
 
   -- the input is at its end
   pub input_read : (left : Option (List ℕ)) → Rests o left text.bytes → IsAtEnd left → length text.bytes ≤ SIZE_LIMIT → Reads p.database.operators text.bytes text.place Ended
@@ -216,15 +227,15 @@ module _ (b : Budgets) (o : Outside) (from : Session) (m : Marks) (q : Program) 
   within_limit : take SIZE_LIMIT (text.bytes ++ piece) ≡ new.bytes
   within_limit = ap (λ n. take n (text.bytes ++ piece)) (sym fill) ∙ take_within text.bytes piece room ∙ sym has
 
-  pub limit_passed : (left : Option (List ℕ)) → Rests o left (text.bytes ++ piece) → new.place ≤ length new.bytes → (Decided q.database.operators new.bytes new.place → ⊥)
+  pub limit_passed : (left : Option (List ℕ)) → Rests o left (text.bytes ++ piece) → (new.place ≡ 0) ⊎ (new.place < length new.bytes) → (Decided q.database.operators new.bytes new.place → ⊥)
       → Breaks b o left from TooMuchInput held now
-  limit_passed left rest fits undecided = (
+  limit_passed left rest short undecided = (
     rest.rest,
     rest.left,
     record {
       taken = text.bytes ++ piece;
       split = rest.split;
       large = omega (arith, length-append text.bytes piece, fill, large);
-      all = subst (λ l. ReadsAll b o from l held now) (sym within_limit) (reads_all b o from m q new held now stands fits undecided);
+      all = subst (λ l. ReadsAll b o from l held now) (sym within_limit) (reads_all b o from m q new held now stands short undecided);
     },
   )

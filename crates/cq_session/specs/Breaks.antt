@@ -40,20 +40,22 @@ pub record ComesTo (b : Budgets) (o : Outside) (from : Session) (name : Text) (h
   pub marks : Marks
   pub advanced : Advanced b o from marks (Opening database (name ∷ later)) held now
 
--- of the input these bytes are read, and of all that they decide the transcript was written
+-- Of the input these bytes are read, and of all that they decide the transcript was written: behind a clause or an error that they
+-- decide stands one more of them.
 pub record ReadsAll (b : Budgets) (o : Outside) (from : Session) (bytes : List ℕ) (held now : Option (List ℕ)) : Type 0 where
   pub database : Database
   pub reader : Reader
   pub is_input : reader.source ≡ source.Input
-  pub within : reader.at ≤ length bytes
+  pub short : (reader.at ≡ 0) ⊎ (reader.at < length bytes)
   pub undecided : Decided database.operators bytes reader.at → ⊥
   pub marks : Marks
   pub advanced : Advanced b o from marks (Reading database reader) held now
 
--- the same of all bytes that were taken of the input, with these left
+-- the same of all bytes that were taken of the input, which are within the limit, with these left
 pub record ReadsTaken (b : Budgets) (o : Outside) (from : Session) (left : List ℕ) (held now : Option (List ℕ)) : Type 0 where
   pub taken : List ℕ
   pub split : o.input ≡ taken ++ left
+  pub small : length taken ≤ SIZE_LIMIT
   pub all : ReadsAll b o from taken held now
 
 -- the same of those within the limit, where more were taken

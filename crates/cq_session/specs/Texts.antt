@@ -1,5 +1,5 @@
 -- How far the transcript of a text came.
-use Rattle.std.specs.Prelude.{◌≡◌, ◌<◌, ℕ, List, [], ◌++◌, true, false, Option}
+use Rattle.std.specs.Prelude.{◌≡◌, ◌⊎◌, ◌<◌, ℕ, List, [], ◌++◌, length, true, false, Option}
 use Rattle.cq_read.specs.Inputs.{Input}
 use Rattle.spec_text.specs.Decided.{Decided}
 use Rattle.spec_text.specs.Readings.{Reads, Ended}
@@ -32,6 +32,10 @@ pub record StandsAt (b : Budgets) (o : Outside) (r : Reader) (s : Source) (marks
   pub is_at : IsAt reader s input q
   pub advanced : Advanced b o (Reading p.database r) marks (Reading q.database reader) held now
   pub none_waits : s ≡ source.Input → q.later ≡ p.later
+
+-- where more bytes may come, reading goes on at the text's beginning or before the end of those that are there
+abbrev pub StopsShort : Input → Type 0
+StopsShort input = input.finished ≡ false → (input.place ≡ 0) ⊎ (input.place < length input.bytes)
 
 -- the bytes don't decide what stands at the place, or nothing more does
 abbrev pub IsPause : Pause → Program → Input → Type 0

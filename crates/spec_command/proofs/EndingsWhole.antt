@@ -133,7 +133,7 @@ lines o left asked status text line (ending.absent_file {name = name} absent f) 
 lines o left asked status text line (ending.large_file {name = name} large f) = inr (inl (name, refl))
 lines o left asked status text line (ending.large_input taken split large read) = inr (inr refl)
 lines o left asked status text line (ending.file_fault f) = refl
-lines o left asked status text line (ending.input_fault taken split read) = refl
+lines o left asked status text line (ending.input_fault taken split small read) = refl
 lines o left asked status text line (ending.write_fault w) = refl
 lines o left asked status text line (ending.no_memory w) = refl
 lines o left asked status text line ending.no_memory_for_words = refl

@@ -10,3 +10,4 @@ pub mod Answering
 pub mod Written
 pub mod GeneratingWhole
 pub mod EndingsWhole
+pub mod Undecided

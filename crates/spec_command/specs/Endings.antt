@@ -55,9 +55,9 @@ pub data Ends (o : Outside) (left : List ℕ) : Option Task → Status → Text 
   large_input : {a : Asked} {text : Text} (taken : List ℕ) → o.input ≡ taken ++ left → SIZE_LIMIT < length taken
       → HasReadAll o a (take SIZE_LIMIT taken) text → Ends o left (Some (ToRun a)) NoFile text input_line
   file_fault : {a : Asked} {name text : Text} → ComesToFile o a name text → Ends o left (Some (ToRun a)) ReadFault text read_line
-  -- of all that the bytes decide that were taken the transcript is written
-  input_fault : {a : Asked} {text : Text} (taken : List ℕ) → o.input ≡ taken ++ left → HasReadAll o a taken text
-      → Ends o left (Some (ToRun a)) ReadFault text read_line
+  -- of all that the bytes decide that were taken the transcript is written, and they are within the limit
+  input_fault : {a : Asked} {text : Text} (taken : List ℕ) → o.input ≡ taken ++ left → length taken ≤ SIZE_LIMIT
+      → HasReadAll o a taken text → Ends o left (Some (ToRun a)) ReadFault text read_line
   write_fault : {a : Asked} {text : Text} → HasWritten o a text → Ends o left (Some (ToRun a)) WriteFault text write_line
   no_memory : {a : Asked} {text : Text} → HasWritten o a text → Ends o left (Some (ToRun a)) NoMemory text memory_line
   no_memory_for_words : Ends o left None NoMemory [] memory_line

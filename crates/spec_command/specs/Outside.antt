@@ -1,5 +1,5 @@
 -- What a run reads, and how far it came.
-use Rattle.std.specs.Prelude.{◌≡◌, ◌≤◌, ℕ, List, ◌∷◌, length, Option, Some, None, if◌then◌else◌, nat_le}
+use Rattle.std.specs.Prelude.{◌≡◌, ◌⊎◌, ◌<◌, ℕ, List, ◌∷◌, length, Option, Some, None, if◌then◌else◌, nat_le}
 use Rattle.cq_outside.specs.Files.{Files}
 use Rattle.cq_outside.specs.declared.shelf.TheConstants.{SIZE_LIMIT}
 use Rattle.cq_words.specs.Asked.{Asked}
@@ -56,12 +56,13 @@ module _ (o : Outside) (a : Asked) where
     pub marks : Marks
     pub runs : Reaches text marks (Opening database (name ∷ later))
 
-  -- Of the input these bytes are read, and the text is written of all that they decide.
+  -- Of the input these bytes are read, and the text is written of all that they decide: behind a clause or an error that they decide
+  -- stands one more of them.
   pub record HasReadAll (bytes : List ℕ) (text : Text) : Type 0 where
     pub database : Database
     pub reader : Reader
     pub is_input : reader.source ≡ Input
-    pub within : reader.at ≤ length bytes
+    pub short : (reader.at ≡ 0) ⊎ (reader.at < length bytes)
     pub undecided : Decided database.operators bytes reader.at → ⊥
     pub marks : Marks
     pub runs : Reaches text marks (Reading database reader)

@@ -5,7 +5,7 @@ ghost use Rattle.spec_command.specs.Outside.{Outside};
 ghost use Rattle.spec_transcript.specs.Purposes.{syntax_line};
 ghost use Rattle.spec_transcript.specs.Session.{Reader, Reading};
 ghost use Rattle.cq_session.specs.Progress.{Broken, CountsWrites, marks_of};
-ghost use Rattle.cq_session.specs.Texts.{IsAt, IsPause, IsTurn, StandsAt, marks_in};
+ghost use Rattle.cq_session.specs.Texts.{IsAt, IsPause, IsTurn, StandsAt, StopsShort, marks_in};
 
 use crate::transcript::halt::{Halt, Lines};
 use crate::transcript::interpreter::{Interpreter, Sentence};
@@ -60,6 +60,7 @@ fn write_next<'a, P: Interpreter, O: Sink>(
         → Broken (P.budgets program.old) o (Reading (P.program program.old).database r) halt (O.held out.old) (O.held out.new)) }
     ensures turn { IfOk result (λ turn. IsTurn turn (P.program program.new) text.old text.new) }
     ensures place { IfOk result (λ turn. text.new.place ≤ length text.new.bytes) }
+    ensures short { IfOk result (λ turn. StopsShort text.old → StopsShort text.new) }
     ensures bytes { text.new.bytes ≡ text.old.bytes }
     ensures finished { text.new.finished ≡ text.old.finished }
     ensures budgets { P.budgets program.new ≡ P.budgets program.old }
@@ -104,6 +105,7 @@ pub(crate) fn write_text<'a, P: Interpreter, O: Sink>(
         → Broken (P.budgets program.old) o (Reading (P.program program.old).database r) halt (O.held out.old) (O.held out.new)) }
     ensures pause { IfOk result (λ p. IsPause p.0 (P.program program.new) text.new) }
     ensures place { IfOk result (λ p. text.new.place ≤ length text.new.bytes) }
+    ensures short { IfOk result (λ p. StopsShort text.old → StopsShort text.new) }
     ensures bytes { text.new.bytes ≡ text.old.bytes }
     ensures finished { text.new.finished ≡ text.old.finished }
     ensures budgets { P.budgets program.new ≡ P.budgets program.old }

@@ -5,6 +5,7 @@ use Rattle.cq_outside.specs.declared.shelf.TheConstants.{SIZE_LIMIT}
 use Rattle.spec_transcript.specs.Session.{Opening}
 use Rattle.spec_command.specs.Outside.{Outside}
 use Rattle.cq_session.specs.Progress.{marks_of}
+use Rattle.cq_session.specs.Texts.{StopsShort}
 use Rattle.cq_session.proofs.Inputs.{StandsIn}
 use Rattle.cq_session.proofs.transcript.input.write_input.Given as goal
 
@@ -18,6 +19,7 @@ invariant-pieces g l = record {
   room : length l.text.bytes + l.room ≡ SIZE_LIMIT;
   finished : l.text.finished ≡ true → IsAtEnd (g.I.Source.left l.input);
   place : l.text.place ≤ length l.text.bytes;
+  short : StopsShort l.text;
   none_waits : (g.P.Interpreter.program l.program).later ≡ [];
   kept : g.P.Interpreter.kept l.program;
   budgets : g.P.Interpreter.budgets l.program ≡ g.P.Interpreter.budgets l.fn.program;

@@ -2,7 +2,7 @@ use Rattle.std.proofs.Common.{◌≡◌, ◌∙◌, ap, rules}
 use Rattle.std.proofs.lemmas.Result.{err_from_is_err_and}
 use Rattle.spec_transcript.specs.Purposes.{syntax_line}
 use Rattle.cq_session.proofs.Steps.{nothing_yet}
-use Rattle.cq_session.proofs.Clauses.{ends_finished, stays, adds, waits, error_written, error_broken, syntax_step, refusal_step, searched, search_broken, directive_step, query_step}
+use Rattle.cq_session.proofs.Clauses.{ends_finished, goes_short, stays_short, stays, adds, waits, error_written, error_broken, syntax_step, refusal_step, searched, search_broken, directive_step, query_step}
 use Rattle.cq_session.proofs.transcript.reading.write_next.Goals as goal
 
 pub returns-in_err-read-clause-part : goal.returns-in_err-read-clause-part
@@ -138,3 +138,53 @@ returns-in_ok-write_query-in-Query-clause-whole g c =
     λ o r at. searched r _ _ _ at _ o _ c.read.new.text _ _ _
     (query_step r _ _ _ at _ o c.read.new.text h.0 h.1 h.3.base _ _ h.2 c.requires.answers h.3.names_are) _ e.bytes e.finished (done.later ∙ ap (λ x. x.later) h.4)
     (whole _ h.3.stands o (record r { at = c.read.new.text.place }))
+
+-- ---- where reading goes on
+
+pub returns-in-Needs-clause-short : goal.returns-in-Needs-clause-short
+returns-in-Needs-clause-short g c =
+    let h = rw c.in-Needs.is at c.in_ok-read.ensures.sentence in
+    let e = c.in_ok-read.ensures in
+    stays_short c.args.text.now c.read.new.text h.3 e.bytes e.finished
+
+pub returns-in-End-clause-short : goal.returns-in-End-clause-short
+returns-in-End-clause-short g c =
+    let h = rw c.in-End.is at c.in_ok-read.ensures.sentence in
+    let e = c.in_ok-read.ensures in
+    stays_short c.args.text.now c.read.new.text h.2 e.bytes e.finished
+
+pub returns-in-Added-clause-short : goal.returns-in-Added-clause-short
+returns-in-Added-clause-short g c =
+    let h = rw c.in-Added.is at c.in_ok-read.ensures.sentence in
+    let e = c.in_ok-read.ensures in
+    goes_short (g.P.Interpreter.program c.args.program.now) c.args.text.now c.read.new.text _ c.requires.place h.2.settled (λ n. n) e.bytes e.finished
+
+pub returns-in-Waits-clause-short : goal.returns-in-Waits-clause-short
+returns-in-Waits-clause-short g c =
+    let h = rw c.in-Waits.is at c.in_ok-read.ensures.sentence in
+    let e = c.in_ok-read.ensures in
+    goes_short (g.P.Interpreter.program c.args.program.now) c.args.text.now c.read.new.text _ c.requires.place h.2.settled (λ n. n) e.bytes e.finished
+
+pub returns-in_ok-write_whole-in-Syntax-clause-short : goal.returns-in_ok-write_whole-in-Syntax-clause-short
+returns-in_ok-write_whole-in-Syntax-clause-short g c =
+    let h = rw c.in-Syntax.is at c.in_ok-read.ensures.sentence in
+    let e = c.in_ok-read.ensures in
+    goes_short (g.P.Interpreter.program c.args.program.now) c.args.text.now c.read.new.text _ c.requires.place h.0 (λ n. n) e.bytes e.finished
+
+pub returns-in_ok-write_whole-in-Refused-clause-short : goal.returns-in_ok-write_whole-in-Refused-clause-short
+returns-in_ok-write_whole-in-Refused-clause-short g c =
+    let h = rw c.in-Refused.is at c.in_ok-read.ensures.sentence in
+    let e = c.in_ok-read.ensures in
+    goes_short (g.P.Interpreter.program c.args.program.now) c.args.text.now c.read.new.text _ c.requires.place h.3.settled (λ n. n) e.bytes e.finished
+
+pub returns-in_ok-write_directive-in-Directive-clause-short : goal.returns-in_ok-write_directive-in-Directive-clause-short
+returns-in_ok-write_directive-in-Directive-clause-short g c =
+    let h = rw c.in-Directive.is at c.in_ok-read.ensures.sentence in
+    let e = c.in_ok-read.ensures in
+    goes_short (g.P.Interpreter.program c.args.program.now) c.args.text.now c.read.new.text _ c.requires.place h.2.settled (λ n. n) e.bytes e.finished
+
+pub returns-in_ok-write_query-in-Query-clause-short : goal.returns-in_ok-write_query-in-Query-clause-short
+returns-in_ok-write_query-in-Query-clause-short g c =
+    let h = rw c.in-Query.is at c.in_ok-read.ensures.sentence in
+    let e = c.in_ok-read.ensures in
+    goes_short (g.P.Interpreter.program c.args.program.now) c.args.text.now c.read.new.text _ c.requires.place h.2.settled (λ n. n) e.bytes e.finished

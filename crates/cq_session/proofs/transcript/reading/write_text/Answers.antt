@@ -8,6 +8,7 @@ pub clauses-init : goal.clauses-init
 clauses-init g c = record {
   stands = λ o r at. rw c.none-lines.ensures (stands_at_once _ o r _ _ _ _ at);
   place = c.requires.place;
+  short = λ s. s;
   bytes = refl;
   finished = refl;
   kept = c.requires.kept;
@@ -39,9 +40,13 @@ clauses-preserved g c =
     record {
       stands = λ o r at. rw c.and-lines.ensures (stands_both _ o r _ _ _ _ _ _ _ _ _ _ _ (i.stands o r at) (whole o));
       place = next.place;
+      short = λ s. next.short (i.short s);
       bytes = next.bytes ∙ i.bytes;
       finished = next.finished ∙ i.finished;
       kept = next.kept;
       budgets = next.budgets ∙ i.budgets;
       faults = next.cause ∙ i.faults;
     }
+
+pub returns-in-Pauses-clause-short : goal.returns-in-Pauses-clause-short
+returns-in-Pauses-clause-short g c = λ s. c.in_ok-pause.ensures.short (c.clauses.invariant.short s)
