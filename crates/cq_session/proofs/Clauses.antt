@@ -1,5 +1,5 @@
 -- Clauses and errors of a text, as steps of a session.
-use Rattle.std.proofs.Common.{◌≡◌, ◌<◌, ◌≤◌, ◌∙◌, ℕ, List, [], ◌∷◌, ◌++◌, length, Bool, true, false, if◌then◌else◌, Option, Some, None, inl, inr, refl, sym, ap, subst}
+use Rattle.std.proofs.Common.{◌≡◌, ◌⊎◌, ◌<◌, ◌≤◌, ◌∙◌, ℕ, List, [], ◌∷◌, ◌++◌, length, Bool, true, false, if◌then◌else◌, Option, Some, None, inl, inr, refl, sym, ap, subst}
 use Rattle.std.specs.Prelude.{bytes_eq, codes}
 use Rattle.cq_outside.specs.Bytes.{Adds, Appends, Begins}
 use Rattle.cq_read.specs.Inputs.{Input}
@@ -40,14 +40,13 @@ ends_finished p input fits h = elim h.settled [ inl f ↦ f | inr d ↦ absurd (
 -- what is decided is read before the end of the bytes, where more may come
 pub goes_short : (p : Program) (old new : Input) (r : Read) → old.place ≤ length old.bytes → IsSettled p.database.operators old r
     → (IsClosed r (length old.bytes) → new.place < length old.bytes) → new.bytes ≡ old.bytes → new.finished ≡ old.finished → StopsShort old → StopsShort new
-goes_short p old new r fits h closed bytes finished short = λ unfinished. inr (subst (λ l. new.place < length l) (sym bytes) (closed (elim h.settled [ inl f ↦ absurd (more_come unfinished f) | inr d ↦ before d ])))
+goes_short p old new r fits h closed bytes finished short = λ unfinished. inr (subst (λ l. new.place < length l) (sym bytes) (closed (before unfinished h.settled)))
   where
-    more_come : new.finished ≡ false → old.finished ≡ true → ⊥
-    more_come unfinished f = let no : true ≡ false = sym f ∙ sym finished ∙ unfinished in cc
+    before : new.finished ≡ false → (old.finished ≡ true) ⊎ Decided p.database.operators old.bytes old.place → IsClosed r (length old.bytes)
+    before unfinished (inl f) = let no : true ≡ false = sym f ∙ sym finished ∙ unfinished in cc
+    before unfinished (inr d) = (decided_when_closed p.database.operators old.bytes old.place r fits h.reads).0 d
 
-    before : Decided p.database.operators old.bytes old.place → IsClosed r (length old.bytes)
-    before d = (decided_when_closed p.database.operators old.bytes old.place r fits h.reads).0 d
-
+-- where nothing was read
 pub stays_short : (old new : Input) → new.place ≡ old.place → new.bytes ≡ old.bytes → new.finished ≡ old.finished → StopsShort old → StopsShort new
 stays_short old new place bytes finished short = rw (finished, place, bytes) short
 

@@ -20,7 +20,7 @@ use Rattle.cq_session.specs.declared.transcript.reading.Pause.{Pause}
 use Rattle.cq_session.specs.declared.transcript.reading.Pause.TheVariants.{Needs, End}
 use Rattle.cq_session.specs.Sentences.{Program}
 use Rattle.cq_session.specs.Progress.{Advanced, Broken}
-use Rattle.cq_session.specs.Texts.{IsAt, StandsAt, StopsShort, IsPause}
+use Rattle.cq_session.specs.Texts.{IsAt, StandsAt, IsShort, StopsShort, IsPause}
 use Rattle.cq_session.specs.Pieces.{CountsReads, HasReadInput, IsUnread}
 use Rattle.cq_session.specs.Breaks.{Breaks, ReadsAll, ReadsTaken}
 use Rattle.cq_session.proofs.Steps.{one_step, at_start, advanced_both, advanced_quietly, memory_here, broken_more}
@@ -84,7 +84,8 @@ undecided_yet Needs q text h e d = h.1 d
 undecided_yet End q text h e d = let no : true ≡ false = sym h.0 ∙ e in cc
 
 -- with more bytes behind it a text stops short as before
-pub short_more : (old new : Input) (bytes : List ℕ) → StopsShort old → old.finished ≡ false → new.place ≡ old.place → new.bytes ≡ old.bytes ++ bytes → StopsShort new
+pub short_more : (old new : Input) (bytes : List ℕ) → StopsShort old → old.finished ≡ false → new.place ≡ old.place → new.bytes ≡ old.bytes ++ bytes
+    → StopsShort new
 short_more old new bytes short unfinished place same = λ f. elim (short unfinished) [ inl z ↦ inl (place ∙ z) | inr h ↦ inr (omega (arith, n, place, h)) ]
   where
     n : length new.bytes ≡ length old.bytes + length bytes
@@ -166,7 +167,7 @@ module _ (b : Budgets) (o : Outside) (from : Session) (m : Marks) (p : Program) 
 
   -- ---- ends
 
-  pub reads_all : (text.place ≡ 0) ⊎ (text.place < length text.bytes) → (Decided p.database.operators text.bytes text.place → ⊥) → ReadsAll b o from text.bytes held mid
+  pub reads_all : IsShort text → (Decided p.database.operators text.bytes text.place → ⊥) → ReadsAll b o from text.bytes held mid
   reads_all short undecided = record {
     database = p.database;
     reader = stands.reader;
@@ -179,16 +180,18 @@ module _ (b : Budgets) (o : Outside) (from : Session) (m : Marks) (p : Program) 
 
   -- a read failed
   pub read_fails : (left now_left : Option (List ℕ)) → Rests o left text.bytes → Keeps left now_left → length text.bytes ≤ SIZE_LIMIT
-      → (text.place ≡ 0) ⊎ (text.place < length text.bytes) → (Decided p.database.operators text.bytes text.place → ⊥) → Breaks b o now_left from Read held mid
+      → IsShort text → (Decided p.database.operators text.bytes text.place → ⊥) → Breaks b o now_left from Read held mid
   read_fails left now_left rest keeps small short undecided = inr (go now_left refl (subst (λ l. Keeps l now_left) rest.left keeps))
     where
       go : (l : Option (List ℕ)) → now_left ≡ l → Keeps (Some rest.rest) l → (bytes : List ℕ) × (now_left ≡ Some bytes) × ReadsTaken b o from bytes held mid
-      go (Some ys) is same = (ys, is, record { taken = text.bytes; split = rest.split ∙ ap (λ l. text.bytes ++ l) (sym same); small = small; all = reads_all short undecided })
+      go (Some ys) is same =
+          (ys, is, record { taken = text.bytes; split = rest.split ∙ ap (λ l. text.bytes ++ l) (sym same); small = small; all = reads_all short undecided })
       go None is same = absurd same
 
   -- what stands in the way of a piece
   pub piece_breaks : (left now_left : Option (List ℕ)) (T : Type 0) (before after : ℕ) (halt : Halt) → Rests o left text.bytes → IsUnread left now_left halt
-      → CountsReads {T = T} before after (Err halt) → length text.bytes ≤ SIZE_LIMIT → (text.place ≡ 0) ⊎ (text.place < length text.bytes) → (Decided p.database.operators text.bytes text.place → ⊥) → Breaks b o now_left from halt held mid
+      → CountsReads {T = T} before after (Err halt) → length text.bytes ≤ SIZE_LIMIT → IsShort text → (Decided p.database.operators text.bytes text.place → ⊥)
+      → Breaks b o now_left from halt held mid
   piece_breaks left now_left T before after Read rest keeps cause small short undecided = read_fails left now_left rest keeps small short undecided
   piece_breaks left now_left T before after Memory rest keeps cause small short undecided = memory_wanted now_left
   piece_breaks left now_left T before after Write rest keeps cause small short undecided = absurd cause
@@ -227,7 +230,7 @@ module _ (b : Budgets) (o : Outside) (from : Session) (m : Marks) (q : Program) 
   within_limit : take SIZE_LIMIT (text.bytes ++ piece) ≡ new.bytes
   within_limit = ap (λ n. take n (text.bytes ++ piece)) (sym fill) ∙ take_within text.bytes piece room ∙ sym has
 
-  pub limit_passed : (left : Option (List ℕ)) → Rests o left (text.bytes ++ piece) → (new.place ≡ 0) ⊎ (new.place < length new.bytes) → (Decided q.database.operators new.bytes new.place → ⊥)
+  pub limit_passed : (left : Option (List ℕ)) → Rests o left (text.bytes ++ piece) → IsShort new → (Decided q.database.operators new.bytes new.place → ⊥)
       → Breaks b o left from TooMuchInput held now
   limit_passed left rest short undecided = (
     rest.rest,

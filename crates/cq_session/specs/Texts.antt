@@ -33,9 +33,13 @@ pub record StandsAt (b : Budgets) (o : Outside) (r : Reader) (s : Source) (marks
   pub advanced : Advanced b o (Reading p.database r) marks (Reading q.database reader) held now
   pub none_waits : s ≡ source.Input → q.later ≡ p.later
 
--- where more bytes may come, reading goes on at the text's beginning or before the end of those that are there
+-- reading goes on at the text's beginning, or before the end of the bytes that are there
+abbrev pub IsShort : Input → Type 0
+IsShort input = (input.place ≡ 0) ⊎ (input.place < length input.bytes)
+
+-- it does where more bytes may come
 abbrev pub StopsShort : Input → Type 0
-StopsShort input = input.finished ≡ false → (input.place ≡ 0) ⊎ (input.place < length input.bytes)
+StopsShort input = input.finished ≡ false → IsShort input
 
 -- the bytes don't decide what stands at the place, or nothing more does
 abbrev pub IsPause : Pause → Program → Input → Type 0

@@ -1,8 +1,9 @@
-use Rattle.std.proofs.Common.{◌≡◌, ◌≤◌, ◌∙◌, ◌++◌, take, drop, inl, refl, sym, ap, subst, arith, length, append-nil}
+use Rattle.std.proofs.Common.{◌≡◌, ◌≤◌, ◌∙◌, ◌++◌, take, drop, false, inl, refl, sym, ap, subst, arith, length, append-nil}
 use Rattle.std.proofs.lemmas.Result.{err_from_is_err_and}
 use Rattle.std.specs.Io.KnownBytes.{Consumes}
 use Rattle.cq_outside.specs.declared.shelf.TheConstants.{SIZE_LIMIT}
 use Rattle.cq_session.specs.declared.transcript.input.Piece.{Piece}
+use Rattle.cq_session.specs.Texts.{StopsShort}
 use Rattle.cq_session.proofs.Inputs.{rests, rest_at_end, takes_none, takes_more, room_more, place_more, unfinished_yet, undecided_yet, split_more, short_more, short_at_end, none_waits, opens_input, stands_in, text_breaks, reads_on, piece_breaks, input_read, limit_passed}
 use Rattle.cq_session.proofs.transcript.input.write_input.Goals as goal
 
@@ -65,7 +66,8 @@ returns-in_err-left-clause-part g c =
     let s = rests o _ _ c.write_text.new.text.bytes told (subst (λ l. Consumes (g.I.Source.left c.args.input.now) (g.I.Source.left c.pieces.input) l) (sym e.bytes) i.taken.consumed) in
     piece_breaks _ o _ _ (g.P.Interpreter.program c.write_text.new.program) c.write_text.new.text _ _
     (reads_on _ o _ _ (g.P.Interpreter.program c.pieces.program) c.pieces.text _ _ (i.stands o told) i.none_waits r.rest r.split (λ f. rest_at_end o _ _ r (i.finished f)) _
-    (g.P.Interpreter.program c.write_text.new.program) c.write_text.new.text _ nothing (whole o)) _ _ Piece _ _ _ s c.in_err-left.ensures.unread c.in_err-left.ensures.cause small (e.short i.short pause.0) pause.1)
+    (g.P.Interpreter.program c.write_text.new.program) c.write_text.new.text _ nothing (whole o)) _ _ Piece _ _ _ s c.in_err-left.ensures.unread c.in_err-left.ensures.cause
+    small (e.short i.short pause.0) pause.1)
 
 pub pieces-preserved-in-Bytes : goal.pieces-preserved-in-Bytes
 pieces-preserved-in-Bytes g c =
@@ -167,8 +169,9 @@ returns-in-TooMuch-clause-part g c =
     let second = c.in_ok-write_text-in-TooMuch.ensures in
     let behind = rw (e.budgets, i.budgets) at second.whole in
     let last = g.P.Interpreter.program c.write_text-in-TooMuch.new.program in
-    let unfinished = second.finished ∙ ap (λ x. x.finished) piece.3 ∙ pause.0 in
-    let between = short_more c.write_text.new.text c.read_piece.new.text (take c.pieces.room piece.0) (e.short i.short) pause.0 (ap (λ x. x.place) piece.3) (ap (λ x. x.bytes) piece.3) in
+    let unfinished : c.write_text-in-TooMuch.new.text.finished ≡ false = second.finished ∙ ap (λ x. x.finished) piece.3 ∙ pause.0 in
+    let between : StopsShort c.read_piece.new.text =
+    short_more c.write_text.new.text c.read_piece.new.text (take c.pieces.room piece.0) (e.short i.short) pause.0 (ap (λ x. x.place) piece.3) (ap (λ x. x.bytes) piece.3) in
     let still = none_waits _ mid last c.read_piece.new.text c.write_text-in-TooMuch.new.text _ _ _ behind nothing in
     λ o told.
     let r = rests o _ _ c.pieces.text.bytes told i.taken.consumed in
@@ -181,4 +184,5 @@ returns-in-TooMuch-clause-part g c =
     limit_passed _ o _ _ last c.pieces.text c.write_text-in-TooMuch.new.text _ _
     (reads_on _ o _ _ mid c.read_piece.new.text _ _ stands nothing (drop c.pieces.room piece.0 ++ t.rest) split
     (λ f. unfinished_yet _ _ _ _ (ap (λ x. x.finished) piece.3) refl pause.0 f) _ last c.write_text-in-TooMuch.new.text _ still (behind o))
-    piece.0 c.pieces.room (second.bytes ∙ bytes) i.room piece.2 _ t (second.short between unfinished) (undecided_yet _ last c.write_text-in-TooMuch.new.text second.pause unfinished)
+    piece.0 c.pieces.room (second.bytes ∙ bytes) i.room piece.2 _ t (second.short between unfinished)
+    (undecided_yet _ last c.write_text-in-TooMuch.new.text second.pause unfinished)
