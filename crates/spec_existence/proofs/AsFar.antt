@@ -42,21 +42,28 @@ module _ (budgets : Budgets) (shelf : Text → Option (List ℕ)) (input : List 
   abbrev Here : Session → Type 0
   Here b = Comes budgets shelf input first forms some_answer b
 
+  -- reading goes on at the beginning of the bytes or before their end
+  abbrev pub StopsShort : Reader → Type 0
+  StopsShort r = (r.at ≡ 0) ⊎ (r.at < length bytes)
+
   -- the place in the input from which the bytes decide no more
   pub record ReadSoFar : Type 0 where
     pub database : Database
     pub reader : Reader
     pub is_input : reader.source ≡ Input
-    pub within : reader.at ≤ length bytes
+    pub short : StopsShort reader
     pub undecided : Decided database.operators bytes reader.at → ⊥
     pub comes : Here (Reading database reader)
 
-  module _ (n : ℕ) (rest : (db : Database) (r : Reader) → r.source ≡ Input → r.bytes ≡ bytes ++ more → r.at ≤ length bytes → length bytes - r.at < n → Here (Reading db r) → ReadSoFar) where
-    module _ (db : Database) (r : Reader) (is_input : r.source ≡ Input) (whole : r.bytes ≡ bytes ++ more) (inside : r.at ≤ length bytes) (left : length bytes - r.at < suc n) (here : Here (Reading db r)) where
+  module _ (n : ℕ) (rest : (db : Database) (r : Reader) → r.source ≡ Input → r.bytes ≡ bytes ++ more → StopsShort r → length bytes - r.at < n → Here (Reading db r) → ReadSoFar) where
+    module _ (db : Database) (r : Reader) (is_input : r.source ≡ Input) (whole : r.bytes ≡ bytes ++ more) (short : StopsShort r) (left : length bytes - r.at < suc n) (here : Here (Reading db r)) where
+      inside : r.at ≤ length bytes
+      inside = elim short [ inl first_place ↦ omega (arith, first_place) | inr before ↦ omega (arith, before) ]
+
       goes_on : (to : ℕ) → r.at < to → to < length bytes → (d : Database) (q : Reader) → IsLater r to q → Here (Reading d q) → ReadSoFar
       goes_on to a b d q i c =
           let p : q.at ≡ to = i.place in
-          rest d q (i.source ∙ is_input) (i.bytes ∙ whole) (omega (arith, p, b)) (omega (arith, p, a, b, left, inside)) c
+          rest d q (i.source ∙ is_input) (i.bytes ∙ whole) (inr (omega (arith, p, b))) (omega (arith, p, a, b, left, inside)) c
 
       -- what is decided stands in the whole input
       by_reading : (x : Read) → IsClosed x (length bytes) → Reads db.operators r.bytes r.at x → MovesOn bytes r.at x → ReadSoFar
@@ -73,11 +80,11 @@ module _ (budgets : Budgets) (shelf : Text → Option (List ℕ)) (input : List 
           by : (x : Read) → Reads db.operators bytes r.at x → Decided db.operators bytes r.at ↔ IsClosed x (length bytes) → IsClosed x (length bytes) ⊎ (IsClosed x (length bytes) → ⊥) → ReadSoFar
           by x h d (inl c) =
               by_reading x c (subst (λ b. Reads db.operators b r.at x) (sym whole) (reads_on db.operators bytes more r.at x h (d.1 c))) (moves_on db.operators bytes r.at x inside h)
-          by x h d (inr k) = record { database = db; reader = r; is_input = is_input; within = inside; undecided = λ e. k (d.0 e); comes = here }
+          by x h d (inr k) = record { database = db; reader = r; is_input = is_input; short = short; undecided = λ e. k (d.0 e); comes = here }
 
-  read_within : (n : ℕ) (db : Database) (r : Reader) → r.source ≡ Input → r.bytes ≡ bytes ++ more → r.at ≤ length bytes → length bytes - r.at < n → Here (Reading db r) → ReadSoFar
-  read_within zero db r e f i l h = absurd (omega (arith, l))
-  read_within (suc n) db r e f i l h = next_so_far n (λ d q a b j k x. read_within n d q a b j k x) db r e f i l h
+  read_within : (n : ℕ) (db : Database) (r : Reader) → r.source ≡ Input → r.bytes ≡ bytes ++ more → StopsShort r → length bytes - r.at < n → Here (Reading db r) → ReadSoFar
+  read_within zero db r e f s l h = absurd (omega (arith, l))
+  read_within (suc n) db r e f s l h = next_so_far n (λ d q a b j k x. read_within n d q a b j k x) db r e f s l h
 
-  pub read_so_far : (db : Database) (r : Reader) → r.source ≡ Input → r.bytes ≡ bytes ++ more → r.at ≤ length bytes → Here (Reading db r) → ReadSoFar
-  read_so_far db r e f i h = read_within (suc (length bytes - r.at)) db r e f i (omega arith) h
+  pub read_so_far : (db : Database) (r : Reader) → r.source ≡ Input → r.bytes ≡ bytes ++ more → StopsShort r → Here (Reading db r) → ReadSoFar
+  read_so_far db r e f s h = read_within (suc (length bytes - r.at)) db r e f s (omega arith) h

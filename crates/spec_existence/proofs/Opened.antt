@@ -1,5 +1,5 @@
 -- Each command line has an ending that comes of its words, the files and the input alone.
-use Rattle.std.proofs.Common.{◌≡◌, ℕ, suc, ◌<◌, ◌≤◌, length, List, [], ◌∷◌, Bool, true, false, cond, Option, Some, None, take, drop, append-nil, arith, refl, ap, sym, subst, ◌∙◌}
+use Rattle.std.proofs.Common.{◌≡◌, ℕ, suc, ◌<◌, ◌≤◌, length, List, [], ◌∷◌, Bool, true, false, cond, Option, Some, None, take, drop, inl, append-nil, arith, refl, ap, sym, subst, ◌∙◌}
 use Rattle.std.specs.Prelude.{nat_le}
 use Rattle.std.proofs.lemmas.List.{take-append-drop}
 use Rattle.std.proofs.lemmas.Bool.Decides.{nat_tests}
@@ -77,7 +77,7 @@ module _ (o : Outside) (a : Asked) (some_answer : 0 < a.answers) where
   input_large : SIZE_LIMIT < length o.input → (db : Database) → Here (Reading db (beginning Input o.input [])) → RunEnds
   input_large size db h =
       let r = read_so_far (budgets_of a) (given o.files) o.input first forms some_answer (take SIZE_LIMIT o.input) (drop SIZE_LIMIT o.input) db (beginning Input o.input []) refl
-      (sym (take-append-drop SIZE_LIMIT o.input)) (omega arith) h in (
+      (sym (take-append-drop SIZE_LIMIT o.input)) (inl refl) h in (
         NoFile,
         r.comes.0,
         input_line,
@@ -86,7 +86,7 @@ module _ (o : Outside) (a : Asked) (some_answer : 0 < a.answers) where
               database = r.database;
               reader = r.reader;
               is_input = r.is_input;
-              within = r.within;
+              short = r.short;
               undecided = r.undecided;
               marks = r.comes.1;
               runs = r.comes.2;
