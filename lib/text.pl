@@ -38,7 +38,7 @@ tab_(N) :- write(' '), M is N - 1, tab_(M).
 %   - `?- atom_number(A, N).` gives `error: error(instantiation_error,atom_number/2)`
 %   - `?- atom_number(12, N).` gives `error: error(type_error(atom,12),atom_number/2)`
 atom_number(A, N) :- atom(A), !, atom_codes(A, Cs), atom_number_(Cs, Ds), catch(number_codes(M, Ds), error(syntax_error(_), _), fail), N = M.
-atom_number(A, N) :- nonvar(A), !, throw(error(type_error(atom, A), atom_number/2)).
+atom_number(A, _) :- nonvar(A), !, throw(error(type_error(atom, A), atom_number/2)).
 atom_number(_, N) :- var(N), !, throw(error(instantiation_error, atom_number/2)).
 atom_number(A, N) :- number(N), !, number_codes(N, Cs), atom_codes(A, Cs).
 atom_number(_, N) :- throw(error(type_error(number, N), atom_number/2)).
