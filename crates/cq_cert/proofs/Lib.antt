@@ -1,0 +1,9 @@
+mod Digits
+mod Fractions
+mod Cuts
+mod Pairs
+mod Weights
+mod Reading
+mod LineWords
+mod Runs
+mod Rests
