@@ -1,0 +1,5 @@
+//! Tests of the check of logs: what no clause says of it.
+#![tactic(auto)]
+
+#[cfg(test)]
+mod logs;
