@@ -12,8 +12,7 @@ use Rattle.cq_term.specs.declared.names.Pred.{Pred}
 use Rattle.cq_clauses.specs.declared.predicates.Named.{Named}
 use Rattle.cq_clauses.specs.Database.{same_pred}
 use Rattle.cq_clauses.specs.Named.{pred_named, behind, IsNewest, AreLinked, AreChained, Searches, HasPlaces}
-use Rattle.cq_term.proofs.AtomsPlaces.{list_any-map}
-use Rattle.cq_clauses.proofs.Found.{position-map}
+use Rattle.cq_clauses.proofs.Found.{position-map, list_any-map}
 use Rattle.cq_clauses.proofs.Writes.{got_last}
 
 -- ---- the only one that passes a test
@@ -235,15 +234,3 @@ pub places_more : (newest wider : List (Option ℕ)) (preds : List Pred) (i : �
 places_more newest wider preds i d places within le here =
     let P : Pred → Type 0 = λ p. p.name < length wider in
     All-more P preds i d within (All-weaker (λ (p : Pred). p.name < length newest) P (λ p h. omega (arith, h, le)) (take i preds) places) here
-
-pub chained_wider : (newest wider : List (Option ℕ)) (named : List Named) → ((name : ℕ) → get_or wider name None ≡ get_or newest name None) → AreChained newest named → AreChained wider named
-chained_wider newest wider named same is = record {
-  names = λ name. subst (IsNewest name named (length named)) (sym (same name)) (is.names name);
-  linked = is.linked;
-}
-
-pub chained_none : AreChained [] []
-chained_none = record {
-  names = λ name. record { is_named = λ i e. absurd (none-some i e); others = λ i n low high got same. absurd (none-some n got) };
-  linked = record { earlier = λ i n got. absurd (none-some n got); once = λ i j m n left right same. absurd (none-some m left) };
-}

@@ -17,6 +17,10 @@ prefix_len-map f p (x ∷ xs) = ap (λ n. cond (p (f x)) (1 + n) 0) (prefix_len-
 pub position-map : {A B : Type 0} (f : A → B) (p : B → Bool) (xs : List A) → position p (map f xs) ≡ position (λ x. p (f x)) xs
 position-map f p xs = ap₂ (λ k n. cond (nat_lt k n) (Some k) None) (prefix_len-map f (λ y. not (p y)) xs) (length-map xs f)
 
+pub list_any-map : {A B : Type 0} (f : A → B) (test : B → Bool) (xs : List A) → list_any test (map f xs) ≡ list_any (λ x. test (f x)) xs
+list_any-map f test [] = refl
+list_any-map f test (x ∷ xs) = ap (λ b. test (f x) || b) (list_any-map f test xs)
+
 -- ---- the change of that one
 
 module _ {A : Type 0} (test : A → Bool) (change : A → A) (other : A) where

@@ -9,12 +9,11 @@ use Rattle.std.specs.Ordering.{nat_cmp}
 use Rattle.std.specs.Cmp.{nat_cmp_total}
 use Rattle.std.specs.FinMap.{FinMap, get, get-insert, get-remove, get-empty, empty}
 use Rattle.std.proofs.lemmas.Option.{slice_get_within, get_or_from_slice_get, slice_get-get_or}
-use Rattle.std.proofs.lemmas.List.Sums.{fails_before_first}
+use Rattle.std.proofs.lemmas.List.Sums.{fails_before_first, passes_at_first}
 use Rattle.std.specs.List.{position_or_len}
 use Rattle.spec_syntax.specs.declared.operators.OpKind.{OpKind}
 use Rattle.std.proofs.lemmas.Bool.Decides.{nat_tests}
 use Rattle.cq_term.specs.Texts.{AreDifferent, KeepsTexts}
-use Rattle.cq_term.proofs.AtomsPlaces.{stands_at}
 use Rattle.spec_syntax.specs.declared.operators.OpDef.{OpDef}
 use Rattle.spec_numbers.specs.Texts.{Text}
 use Rattle.spec_syntax.specs.Operators.{Ops, Position, Prefix, Infix, Postfix, Fits, changed, entry, put, put_at, position_of, in_range, kind_named, is_bracket, is_at_odds, clashes, set, set_checked, Comma, Clash}
@@ -22,6 +21,30 @@ use Rattle.cq_ops.specs.Tables.{Tables, AllFit, AllBelow, AreNamed, entry_of, na
 use Rattle.cq_term.specs.Texts.{text_of}
 use Rattle.spec_syntax.specs.Standard.{put_names, empty as no_operators}
 use Rattle.cq_ops.proofs.Lookups.{same_test}
+
+-- what stands where a test is first passed
+pub record StandsAt {A : Type 0} (test : A → Bool) (xs : List A) (i : ℕ) : Type 0 where
+  pub item : A
+  pub there : slice_get xs i ≡ Some item
+  pub passes : test item ≡ true
+
+pub stands_at : {A : Type 0} (test : A → Bool) (xs : List A) (i : ℕ) → position test xs ≡ Some i → StandsAt test xs i
+stands_at test [] i e = cc
+stands_at test (x ∷ xs) i e = by (nat_lt n (length (x ∷ xs))) refl e
+  where
+    n : ℕ
+    n = position_or_len test (x ∷ xs)
+
+    by : (b : Bool) → nat_lt n (length (x ∷ xs)) ≡ b → cond b (Some n) None ≡ Some i → StandsAt test (x ∷ xs) i
+    by true lt s =
+        let below : n < length (x ∷ xs) = grind (arith, nat_tests) in
+        let same : n ≡ i = cc in
+        record {
+          item = get_or (x ∷ xs) n x;
+          there = subst (λ k. slice_get (x ∷ xs) k ≡ Some (get_or (x ∷ xs) n x)) same (slice_get-get_or (x ∷ xs) n x below);
+          passes = passes_at_first test (x ∷ xs) x below;
+        }
+    by false lt s = cc
 
 -- what stands at the place of a text is that text
 text_at : (texts : List Text) (text : Text) (i : ℕ) → position (bytes_eq text) texts ≡ Some i → slice_get texts i ≡ Some text

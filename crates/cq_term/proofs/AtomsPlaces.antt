@@ -1,43 +1,12 @@
 -- Where a text stands among texts that are all different.
-use Rattle.std.proofs.Common.{◌≡◌, ℕ, zero, suc, ◌<◌, Bool, true, false, cond, ◌||◌, List, [], ◌∷◌, ◌++◌, map, length, Some, None, slice_get, position, get_or, nat_lt, refl, sym, ap, subst, ◌∙◌, ◌⊎◌, inl, inr, arith, true≢false}
-use Rattle.std.specs.List.{list_any, position_or_len}
+use Rattle.std.proofs.Common.{◌≡◌, ◌↔◌, Option, ℕ, zero, suc, Bool, true, false, cond, ◌||◌, List, [], ◌∷◌, ◌++◌, map, length, Some, None, slice_get, refl, sym, ap, subst, ◌∙◌, ◌⊎◌, inl, inr, arith, true≢false}
+use Rattle.std.specs.List.{list_any}
 use Rattle.std.specs.Str.{bytes_eq}
 use Rattle.std.specs.Cmp.Lexicographic.{bytes_decides}
-use Rattle.std.proofs.lemmas.List.Sums.{passes_at_first}
-use Rattle.std.proofs.lemmas.Option.{slice_get-get_or, slice_get-map}
-use Rattle.std.specs.Option.{option_map}
 use Rattle.std.specs.Prelude.{if◌then◌else◌}
-use Rattle.std.proofs.lemmas.Bool.Decides.{nat_tests}
+use Rattle.std.proofs.lemmas.List.{length-map}
 use Rattle.spec_numbers.specs.Texts.{Text}
-use Rattle.cq_term.specs.Texts.{AreDifferent, KeepsTexts, with_text}
-
--- what stands where a test is first passed
-pub record StandsAt {A : Type 0} (test : A → Bool) (xs : List A) (i : ℕ) : Type 0 where
-  pub item : A
-  pub there : slice_get xs i ≡ Some item
-  pub passes : test item ≡ true
-
-pub stands_at : {A : Type 0} (test : A → Bool) (xs : List A) (i : ℕ) → position test xs ≡ Some i → StandsAt test xs i
-stands_at test [] i e = cc
-stands_at test (x ∷ xs) i e = by (nat_lt n (length (x ∷ xs))) refl e
-  where
-    n : ℕ
-    n = position_or_len test (x ∷ xs)
-
-    by : (b : Bool) → nat_lt n (length (x ∷ xs)) ≡ b → cond b (Some n) None ≡ Some i → StandsAt test (x ∷ xs) i
-    by true lt s =
-        let below : n < length (x ∷ xs) = grind (arith, nat_tests) in
-        let same : n ≡ i = cc in
-        record {
-          item = get_or (x ∷ xs) n x;
-          there = subst (λ k. slice_get (x ∷ xs) k ≡ Some (get_or (x ∷ xs) n x)) same (slice_get-get_or (x ∷ xs) n x below);
-          passes = passes_at_first test (x ∷ xs) x below;
-        }
-    by false lt s = cc
-
-pub list_any-map : {A B : Type 0} (f : A → B) (test : B → Bool) (xs : List A) → list_any test (map f xs) ≡ list_any (λ x. test (f x)) xs
-list_any-map f test [] = refl
-list_any-map f test (x ∷ xs) = ap (λ b. test (f x) || b) (list_any-map f test xs)
+use Rattle.cq_term.specs.Texts.{AreDifferent, KeepsTexts, IsNumbering, with_text}
 
 pub map-push : {A B : Type 0} (f : A → B) (xs : List A) (x : A) → map f (xs ++ x ∷ []) ≡ map f xs ++ f x ∷ []
 map-push f [] x = refl
@@ -73,38 +42,6 @@ with_text-known texts text known = rw known refl
 pub with_text-new : (texts : List Text) (text : Text) → list_any (bytes_eq text) texts ≡ false → texts ++ text ∷ [] ≡ with_text texts text
 with_text-new texts text new = rw new refl
 
-module _ {K : Type 0} (text_of : K → Text) (keys : List K) (text : Text) where
-  -- the place of the first key with the text
-  pub number-known : (i : ℕ) → Some i ≡ position (λ k. bytes_eq text (text_of k)) keys → slice_get (map text_of keys) i ≡ Some text
-  number-known i e =
-      let s = stands_at (λ k. bytes_eq text (text_of k)) keys i (sym e) in
-      slice_get-map text_of keys i ∙ ap (option_map text_of) s.there ∙ ap (λ t. Some t) (sym ((bytes_decides text (text_of s.item)).0 s.passes))
-
-  pub texts-known : true ≡ list_any (λ k. bytes_eq text (text_of k)) keys → map text_of keys ≡ with_text (map text_of keys) text
-  texts-known there = with_text-known (map text_of keys) text (list_any-map text_of (bytes_eq text) keys ∙ sym there)
-
-  module _ (key : K) (after : List K) (same : text_of key ≡ text) (none : false ≡ list_any (λ k. bytes_eq text (text_of k)) keys)
-      (put : after ≡ (if list_any (λ k. bytes_eq (text_of key) (text_of k)) keys then keys else keys ++ key ∷ [])) where
-    is_new : list_any (bytes_eq text) (map text_of keys) ≡ false
-    is_new = list_any-map text_of (bytes_eq text) keys ∙ sym none
-
-    -- a key with a new text goes last
-    texts-push : map text_of after ≡ map text_of keys ++ text ∷ []
-    texts-push =
-        let none' : list_any (λ k. bytes_eq (text_of key) (text_of k)) keys ≡ false = subst (λ t. list_any (λ k. bytes_eq t (text_of k)) keys ≡ false) (sym same) (sym none) in
-        let last : after ≡ keys ++ key ∷ [] = put ∙ ap (λ b. if b then keys else keys ++ key ∷ []) none' in
-        ap (map text_of) last ∙ map-push text_of keys key ∙ ap (λ t. map text_of keys ++ t ∷ []) same
-
-    pub texts-new : map text_of after ≡ with_text (map text_of keys) text
-    texts-new = texts-push ∙ with_text-new (map text_of keys) text is_new
-
-    pub different-new : AreDifferent (map text_of keys) → AreDifferent (map text_of after)
-    different-new different = subst AreDifferent (sym texts-push) (different-push (map text_of keys) text different is_new)
-
-    pub number-new : (i : ℕ) (there : K) → slice_get after i ≡ Some there → bytes_eq (text_of key) (text_of there) ≡ true → slice_get (map text_of after) i ≡ Some text
-    number-new i there at passes =
-        slice_get-map text_of after i ∙ ap (option_map text_of) at ∙ ap (λ t. Some t) (sym ((bytes_decides (text_of key) (text_of there)).0 passes) ∙ same)
-
 kept-append : (texts more : List Text) → KeepsTexts texts (texts ++ more)
 kept-append [] more i text e = cc
 kept-append (x ∷ texts) more zero text e = e
@@ -131,3 +68,87 @@ with_text-twice texts text = sym (with_text-known (with_text texts text) text (b
     by : (known : Bool) → list_any (bytes_eq text) texts ≡ known → list_any (bytes_eq text) (if known then texts else texts ++ text ∷ []) ≡ true
     by true e = e
     by false e = last-known texts text
+
+there : (texts : List Text) (text : Text) → list_any (bytes_eq text) texts ≡ true → (i : ℕ) × (slice_get texts i ≡ Some text)
+there [] text h = cc
+there (x ∷ texts) text h = by (bytes_eq text x) refl (there texts text) h
+  where
+    by : (b : Bool) → bytes_eq text x ≡ b → (list_any (bytes_eq text) texts ≡ true → (i : ℕ) × (slice_get texts i ≡ Some text)) → (b || list_any (bytes_eq text) texts) ≡ true
+        → (i : ℕ) × (slice_get (x ∷ texts) i ≡ Some text)
+    by true same later h = (zero, ap (λ t. Some t) (sym ((bytes_decides text x).0 same)))
+    by false other later h = let r = later h in (suc r.0, r.1)
+
+none-some : (i : ℕ) (found : Option ℕ) → None ≡ found → found ≡ Some i → ⊥
+none-some i found n f = cc
+
+at-last : (texts : List Text) (text t : Text) (n i : ℕ) → Some n ≡ Some i → slice_get texts n ≡ Some text → text ≡ t → slice_get texts i ≡ Some t
+at-last texts text t n i same there is = cc
+
+last_there : (texts : List Text) (last : Text) → slice_get (texts ++ last ∷ []) (length texts) ≡ Some last
+last_there [] last = refl
+last_there (x ∷ texts) last = last_there texts last
+
+module _ (find : Text → Option ℕ) (texts : List Text) (numbering : IsNumbering find texts) (text : Text) where
+  pub number-known : (i : ℕ) → Some i ≡ find text → slice_get texts i ≡ Some text
+  number-known i e = (numbering text i).0 (sym e)
+
+  pub texts-known : (i : ℕ) → Some i ≡ find text → texts ≡ with_text texts text
+  texts-known i e = by (list_any (bytes_eq text) texts) refl
+    where
+      by : (b : Bool) → list_any (bytes_eq text) texts ≡ b → texts ≡ with_text texts text
+      by true h = with_text-known texts text h
+      by false h = absurd (absent texts i text h (number-known i e))
+
+  module _ (new : None ≡ find text) where
+    is_new : list_any (bytes_eq text) texts ≡ false
+    is_new = by (list_any (bytes_eq text) texts) refl
+      where
+        by : (b : Bool) → list_any (bytes_eq text) texts ≡ b → b ≡ false
+        by true h = let r = there texts text h in absurd (none-some r.0 (find text) new ((numbering text r.0).1 r.1))
+        by false h = refl
+
+    pub texts-new : texts ++ text ∷ [] ≡ with_text texts text
+    texts-new = with_text-new texts text is_new
+
+    pub different-new : AreDifferent texts → AreDifferent (texts ++ text ∷ [])
+    different-new different = different-push texts text different is_new
+
+    -- a search that finds the new text at the end, and any other where it was
+    pub numbering-new : (after : Text → Option ℕ) → ((t : Text) → after t ≡ cond (bytes_eq text t) (Some (length texts)) (find t)) → IsNumbering after (texts ++ text ∷ [])
+    numbering-new after put t i = by (bytes_eq text t) refl
+      where
+        by : (b : Bool) → bytes_eq text t ≡ b → (after t ≡ Some i) ↔ (slice_get (texts ++ text ∷ []) i ≡ Some t)
+        by true eq =
+            let same : text ≡ t = (bytes_decides text t).0 eq in
+            let at : after t ≡ Some (length texts) = put t ∙ ap (λ b. cond b (Some (length texts)) (find t)) eq in (
+              (λ e. at-last (texts ++ text ∷ []) text t (length texts) i (sym at ∙ e) (last_there texts text) same),
+              (λ e. elim (slot texts text i t e) [ inl within ↦ absurd (absent texts i text is_new (subst (λ u. slice_get texts i ≡ Some u) (sym same) within)) | inr (last, is) ↦ at ∙ ap (λ k. Some k) (sym last) ]),
+            )
+        by false other =
+            let at : after t ≡ find t = put t ∙ ap (λ b. cond b (Some (length texts)) (find t)) other in (
+              (λ e. kept-append texts (text ∷ []) i t ((numbering t i).0 (sym at ∙ e))),
+              (λ e. elim (slot texts text i t e) [ inl within ↦ at ∙ (numbering t i).1 within | inr (last, same) ↦ absurd (true≢false (sym ((bytes_decides text t).1 (sym same)) ∙ other)) ]),
+            )
+
+module _ {K : Type 0} (bytes : K → Text) (find : Text → Option ℕ) (keys : List K) (numbering : IsNumbering find (map bytes keys)) (text : Text) (new : None ≡ find text) (copy : K)
+    (same : bytes copy ≡ text) where
+  push : map bytes (keys ++ copy ∷ []) ≡ map bytes keys ++ text ∷ []
+  push = map-push bytes keys copy ∙ ap (λ t. map bytes keys ++ t ∷ []) same
+
+  pub after-texts : map bytes (keys ++ copy ∷ []) ≡ with_text (map bytes keys) text
+  after-texts = push ∙ texts-new find (map bytes keys) numbering text new
+
+  pub after-different : AreDifferent (map bytes keys) → AreDifferent (map bytes (keys ++ copy ∷ []))
+  after-different different = subst AreDifferent (sym push) (different-new find (map bytes keys) numbering text new different)
+
+  pub after-number : (n : ℕ) → n ≡ length keys → slice_get (map bytes (keys ++ copy ∷ [])) n ≡ Some text
+  after-number n e =
+      subst (λ texts. slice_get texts n ≡ Some text) (sym push)
+      (subst (λ k. slice_get (map bytes keys ++ text ∷ []) k ≡ Some text) (length-map keys bytes ∙ sym e) (last_there (map bytes keys) text))
+
+  pub after-numbering : (after : Text → Option ℕ) (key : Text) (n : ℕ) → key ≡ text → n ≡ length keys → ((t : Text) → after t ≡ cond (bytes_eq key t) (Some n) (find t))
+      → IsNumbering after (map bytes (keys ++ copy ∷ []))
+  after-numbering after key n k e put = subst (IsNumbering after) (sym push) (numbering-new find (map bytes keys) numbering text new after at)
+    where
+      at : (t : Text) → after t ≡ cond (bytes_eq text t) (Some (length (map bytes keys))) (find t)
+      at t = put t ∙ ap (λ u. cond (bytes_eq u t) (Some n) (find t)) k ∙ ap (λ m. cond (bytes_eq text t) (Some m) (find t)) (e ∙ sym (length-map keys bytes))

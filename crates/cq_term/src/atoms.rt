@@ -5,8 +5,8 @@ ghost use Rattle.std.specs.Prelude.{◌≡◌, ℕ, ◌<◌, List, [], Some, len
 ghost use Rattle.spec_numbers.specs.Texts.{Text};
 ghost use Rattle.cq_term.specs.Texts.{AreDifferent, KeepsTexts, with_text, text_of};
 
-use indexmap::IndexSet;
 use std::alloc::{AllocError, Global};
+use std::collections::HashMap;
 use std::marker::Model;
 
 /// A name, as its number among the names of one `Atoms`. Contracts see it as that number.
@@ -43,7 +43,9 @@ impl Atom {
 /// The names that were given so far. Contracts see the list of their texts, by number.
 #[derive(Drop)]
 pub struct Atoms {
-    texts: IndexSet<String>,
+    /// The number of each text.
+    numbers: HashMap<String, usize>,
+    texts: Vec<String>,
     alloc: Global,
 }
 
@@ -51,13 +53,14 @@ impl Model for Atoms {
     ghost use Rattle.std.specs.Prelude.{List, map};
     ghost use Rattle.std.specs.String.{string_bytes};
     ghost use Rattle.spec_numbers.specs.Texts.{Text};
-    ghost use Rattle.cq_term.specs.Texts.{AreDifferent};
+    ghost use Rattle.std.specs.HashMap.{get_by_text};
+    ghost use Rattle.cq_term.specs.Texts.{AreDifferent, IsNumbering};
 
     ghost Value = { List Text };
 
-    ghost view = { λ atoms. map string_bytes atoms.texts.keys };
+    ghost view = { λ atoms. map string_bytes atoms.texts.items };
 
-    ghost invariant = { λ atoms. AreDifferent (map string_bytes atoms.texts.keys) };
+    ghost invariant = { λ atoms. AreDifferent (map string_bytes atoms.texts.items) × IsNumbering (get_by_text atoms.numbers) (map string_bytes atoms.texts.items) };
 }
 
 impl Atoms {
@@ -66,7 +69,8 @@ impl Atoms {
         ensures { result ≡ [] }
     {
         Atoms {
-            texts: IndexSet::new(alloc),
+            numbers: HashMap::new(alloc),
+            texts: Vec::new(alloc),
             alloc,
         }
     }
@@ -79,11 +83,15 @@ impl Atoms {
         ensures was_different { AreDifferent self.old }
         ensures err { OnErr result (self.new ≡ self.old) }
     {
-        if let Some(number) = self.texts.get_index_of(text) {
-            return Ok(Atom { number });
+        if let Some(number) = self.numbers.get(text) {
+            return Ok(Atom { number: *number });
         }
+        let key = String::from_str(self.alloc, text)?;
         let copy = String::from_str(self.alloc, text)?;
-        let (number, _) = self.texts.insert_full(copy)?;
+        self.texts.reserve(1)?;
+        let number = self.texts.len();
+        self.numbers.insert(key, number)?;
+        self.texts.push_reserved(copy);
         Ok(Atom { number })
     }
 
@@ -93,8 +101,7 @@ impl Atoms {
         ensures value { result.now ≡ text_of self.now atom }
         ensures different { AreDifferent self.now }
     {
-        let texts = self.texts.as_slice();
-        texts[atom.number].as_str()
+        self.texts[atom.number].as_str()
     }
 }
 

@@ -5,8 +5,7 @@ use Rattle.cq_term.specs.declared.names.Pred.{Pred}
 use Rattle.cq_clauses.specs.declared.procedures.Kind.TheVariants.{Dynamic}
 use Rattle.cq_clauses.specs.Database.{same_pred}
 use Rattle.cq_clauses.specs.Procedures.{pred_of, is_of, made_dynamic}
-use Rattle.cq_term.proofs.AtomsPlaces.{list_any-map}
-use Rattle.cq_clauses.proofs.Found.{position-map}
+use Rattle.cq_clauses.proofs.Found.{position-map, list_any-map}
 use Rattle.cq_clauses.proofs.Kept.{keys_set, procedure_read, with_dynamic_at, with_dynamic_new}
 use Rattle.cq_clauses.proofs.procedures.declare.Goals as goal
 

@@ -3,8 +3,7 @@ use Rattle.std.specs.List.{list_any}
 use Rattle.cq_clauses.specs.declared.procedures.Procedure.{Procedure}
 use Rattle.cq_clauses.specs.Database.{same_pred}
 use Rattle.cq_clauses.specs.Procedures.{is_of}
-use Rattle.cq_term.proofs.AtomsPlaces.{list_any-map}
-use Rattle.cq_clauses.proofs.Found.{position-map}
+use Rattle.cq_clauses.proofs.Found.{position-map, list_any-map}
 use Rattle.cq_clauses.proofs.procedures.Procedures.find.Goals as goal
 
 pub returns-clause-value : goal.returns-clause-value
