@@ -3,7 +3,7 @@
 
 pub mod row;
 
-ghost use Rattle.std.specs.Prelude.{◌≡◌, ◌≢◌, ◌<◌, ◌↔◌, pos, nat_abs, int_lt, Some, IfOk, OnOk, MatchResult, IsTrue};
+ghost use Rattle.std.specs.Prelude.{◌≡◌, ◌≢◌, ◌<◌, ◌↔◌, pos, nat_abs, int_lt, Some, IfSome, IfOk, OnOk, MatchResult, IsTrue};
 ghost use Rattle.std.specs.Bool.{OnFalse};
 ghost use Rattle.std.specs.Cmp.{partial_equiv_from_equiv, eq_by_cmp_equiv, partial_order_from_total};
 ghost use Rattle.std.specs.Ordering.{nat_cmp, eq_by_cmp, as_partial_cmp};
@@ -179,6 +179,18 @@ impl Frac {
         ensures fits { Fits self }
     {
         (self.numer, self.denom)
+    }
+
+    /// The number as one word, where it is whole and fits.
+    pub fn to_i64(self) -> Option<i64>
+        ensures { IfSome result (λ n. self ≡ int_ℚ n) }
+    {
+        let (numerator, denominator) = self.parts();
+        if denominator == 1 {
+            i64::try_from(numerator).ok()
+        } else {
+            None
+        }
     }
 
     /// Whether the number is 0.

@@ -37,7 +37,7 @@ second_shown count hs f n p e = go (term_of hs) (pattern_heads count hs p) e
     go (Compound g ts) d k = (let b = begins_in ts in (b.0, view_of (first_of ts), sym d ∙ (λ i. k i ∷ b.1 i), refl))
 
 -- ---- under a substitution
-rigid_kept : (s : Subst ℕ) (t : HeapTerm) → IsRigid (view_of t) → view_of (apply s t) ≡ view_of t
+pub rigid_kept : (s : Subst ℕ) (t : HeapTerm) → IsRigid (view_of t) → view_of (apply s t) ≡ view_of t
 rigid_kept s (Var v) r = absurd r
 rigid_kept s (Number q) r = refl
 rigid_kept s (Name a) r = refl

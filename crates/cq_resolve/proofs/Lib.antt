@@ -9,6 +9,7 @@ pub mod Completed
 pub mod Matched
 pub mod Named
 pub mod PartTerms
+pub mod Selection
 pub mod Started
 pub mod Telling
 pub mod Unifying
@@ -16,5 +17,4 @@ mod Excluded
 mod Predicates
 mod Changes
 mod Instances
-mod Selection
 mod Whole

@@ -143,10 +143,6 @@ is_below_more n m (view.Number q) le b = tt
 is_below_more n m (view.Name a) le b = tt
 is_below_more n m (view.Compound f k) le b = tt
 
-pub have_below_more : (n m : ℕ) (hs : List View) → n ≤ m → HaveBelow n hs → HaveBelow m hs
-have_below_more n m [] le b = tt
-have_below_more n m (h ∷ hs) le b = (is_below_more n m h le b.0, have_below_more n m hs le b.1)
-
 -- ---- what is left behind a place
 pub heads_left : (n k : ℕ) (hs : List View) → AreHeads n hs → AreHeads n (drop k hs)
 heads_left n zero hs h = h

@@ -5,8 +5,7 @@ use Rattle.std.specs.Option.{option_map_or}
 use Rattle.std.proofs.lemmas.List.Elements.{All-head, All-tail}
 use Rattle.std.proofs.lemmas.Option.{slice_get-get_or}
 use Rattle.spec_numbers.specs.Texts.{Text}
-use Rattle.spec_terms.specs.Term.{Term, Terms, Var, Number, Name, Compound, one, more, apply, named}
-use Rattle.spec_terms.specs.Names.{EachName, EachNameIn, AreDifferentBelow}
+use Rattle.spec_terms.specs.Term.{Term, Subst, apply, named}
 use Rattle.spec_terms.specs.Unifier.{HasNoUnifier}
 use Rattle.spec_terms.proofs.Renamed.{none_by_texts}
 use Rattle.spec_builtins.specs.Alternatives.{◌≐◌}
@@ -16,8 +15,8 @@ use Rattle.spec_search.specs.Control.{instance}
 use Rattle.spec_search.specs.Steps.{IsSelection, end, takes, leaves_out}
 use Rattle.cq_term.specs.Texts.{AreDifferent, text_of}
 use Rattle.cq_term.specs.Meaning.{HeapTerm, blank}
-use Rattle.cq_term.specs.Names.{HasNamesBelow, HaveNamesBelow}
-use Rattle.cq_term.proofs.Known.{names_substituted}
+use Rattle.cq_term.specs.Names.{HasNamesBelow}
+use Rattle.cq_term.proofs.Known.{names_substituted, each_below, different_below}
 use Rattle.cq_resolve.specs.Building.{moved_by}
 use Rattle.cq_resolve.specs.StoredValue.{ClauseValue}
 use Rattle.cq_clauses.specs.declared.key.Key.{Key}
@@ -27,24 +26,6 @@ use Rattle.cq_resolve.specs.Keys.{key_of}
 use Rattle.cq_resolve.specs.Database.{IsCounted, as_clause, content_at}
 use Rattle.cq_resolve.proofs.Excluded.{excluded}
 use Rattle.cq_resolve.proofs.Instances.{instance_moved}
-
--- ---- names
-
-module _ (n : ℕ) where
-  mutual
-    each_below : (t : HeapTerm) → HasNamesBelow n t → EachName (λ a. a < n) t
-    each_below (Var v) h = tt
-    each_below (Number q) h = tt
-    each_below (Name a) h = h
-    each_below (Compound f ts) h = (h.0, each_below_in ts h.1)
-
-    each_below_in : (ts : Terms ℕ) → HaveNamesBelow n ts → EachNameIn (λ a. a < n) ts
-    each_below_in (one t) h = each_below t h
-    each_below_in (more t ts) h = (each_below t h.0, each_below_in ts h.1)
-
-different_below : (texts : List Text) → AreDifferent texts → AreDifferentBelow (length texts) (text_of texts)
-different_below texts different i j in_i in_j same =
-    different i j (text_of texts i) (slice_get-get_or texts i [] in_i) (slice_get-get_or texts j [] in_j ∙ ap (λ t. Some t) (sym same))
 
 -- ---- clauses passed over
 
@@ -62,20 +43,25 @@ module _ (texts : List Text) (different : AreDifferent texts) (p : Place) (goal 
   is_counted : (n : ℕ) → n < length contents → IsCounted (length texts) (content n)
   is_counted n within = counted n (record { head = blank; body = blank; variables = 0 }) within
 
-  -- its head, under the next variables, has no unifier with the goal
-  no_unifier : (k : Key) (n : ℕ) → key_of goal ≡ Some k → n < length contents → may_match k (key_in n) ≡ false
+  -- a head that nothing makes equal to the goal has no unifier with it under the next variables
+  pub none_with_texts : (n : ℕ) → n < length contents → ((r : Subst ℕ) → HasNoUnifier (record { left = goal; right = apply r (content n).head } ∷ []))
       → HasNoUnifier ((named (text_of texts) goal ≐ (instance p (clause n)).head) ∷ [])
-  no_unifier k n of_goal within passed =
+  none_with_texts n within none =
       let c : ClauseValue = content n in
       let is : IsCounted (length texts) c = is_counted n within in
-      let key : key_in n ≡ key_of c.head = ap (λ o. option_map_or (λ (d : ClauseValue). key_of d.head) o None) (slice_get-get_or contents n (record { head = blank; body = blank; variables = 0 }) within) in
       let moved : HeapTerm = apply (moved_by p.state.fresh) c.head in
-      let none : HasNoUnifier (record { left = goal; right = moved } ∷ []) = excluded goal c.head (moved_by p.state.fresh) k of_goal (ap (may_match k) (sym key) ∙ passed) in
       let below : HasNamesBelow (length texts) moved = names_substituted (length texts) (moved_by p.state.fresh) c.head is.below.head (λ v o. tt) in
       subst (λ (t : Term Text). HasNoUnifier ((named (text_of texts) goal ≐ t) ∷ []))
       (sym (ap (λ h. h.head) (instance_moved texts p.state.fresh (length texts) c is)))
       (none_by_texts (text_of texts) (length texts) (different_below texts different) (record { left = goal; right = moved } ∷ [])
-      (each_below (length texts) goal goal_known, each_below (length texts) moved below, tt) none)
+      (each_below (length texts) goal goal_known, each_below (length texts) moved below, tt) (none (moved_by p.state.fresh)))
+
+  no_unifier : (k : Key) (n : ℕ) → key_of goal ≡ Some k → n < length contents → may_match k (key_in n) ≡ false
+      → HasNoUnifier ((named (text_of texts) goal ≐ (instance p (clause n)).head) ∷ [])
+  no_unifier k n of_goal within passed =
+      let key : key_in n ≡ key_of (content n).head =
+      ap (λ o. option_map_or (λ (d : ClauseValue). key_of d.head) o None) (slice_get-get_or contents n (record { head = blank; body = blank; variables = 0 }) within) in
+      none_with_texts n within (λ r. excluded goal (content n).head r k of_goal (ap (may_match k) (sym key) ∙ passed))
 
   all_taken : (ns : List ℕ) → IsSelection p (named (text_of texts) goal) (map clause ns) (map clause ns)
   all_taken [] = end

@@ -1,8 +1,7 @@
 -- The names and the variables of terms, with numbers and with texts in the places of names.
-use Rattle.std.proofs.Common.{◌≡◌, ◌<◌, ℕ, inl, inr}
+use Rattle.std.proofs.Common.{◌≡◌, ℕ, inl, inr}
 use Rattle.spec_numbers.specs.Texts.{Text}
 use Rattle.spec_terms.specs.Term.{Terms, Subst, Var, Number, Name, Compound, one, more, Occurs, OccursIn, apply, apply_all, named, named_all}
-use Rattle.spec_terms.specs.Names.{EachName, EachNameIn}
 use Rattle.cq_term.specs.Meaning.{HeapTerm}
 use Rattle.cq_term.specs.Names.{HasNamesBelow, HaveNamesBelow}
 
@@ -27,17 +26,6 @@ named_variable f (Name a) v e = cc
 named_variable f (Compound a ts) v e = cc
 
 module _ (n : ℕ) where
-  mutual
-    pub each_below : (t : HeapTerm) → HasNamesBelow n t → EachName (λ a. a < n) t
-    each_below (Var v) h = tt
-    each_below (Number q) h = tt
-    each_below (Name a) h = h
-    each_below (Compound f ts) h = (h.0, each_in_below ts h.1)
-
-    each_in_below : (ts : Terms ℕ) → HaveNamesBelow n ts → EachNameIn (λ a. a < n) ts
-    each_in_below (one t) h = each_below t h
-    each_in_below (more t ts) h = (each_below t h.0, each_in_below ts h.1)
-
   -- the image of a variable of the term has the names of the term's image alone
   mutual
     pub image_below : (s : Subst ℕ) (v : ℕ) (t : HeapTerm) → Occurs v t → HasNamesBelow n (apply s t) → HasNamesBelow n (s v)

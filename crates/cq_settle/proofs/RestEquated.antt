@@ -1,17 +1,16 @@
 -- A world whose terms were made equal is called to be settled.
-use Rattle.std.proofs.Common.{◌≡◌, ◌≢◌, ◌<◌, ℕ, List, [], ◌∷◌, length, map, get_or, Bool, true, false, Some, refl, sym, ap, ap₂, ◌∙◌, subst, arith, inl, inr}
+use Rattle.std.proofs.Common.{◌≡◌, ◌≢◌, ◌<◌, ℕ, List, [], ◌∷◌, length, map, get_or, Bool, true, false, refl, sym, ap, ap₂, ◌∙◌, subst, arith, inl, inr}
 use Rattle.std.specs.Prelude.{All, Contains, not}
 use Rattle.std.specs.List.{AllZip, AllPairs}
 use Rattle.std.proofs.lemmas.Bool.{true≢false}
 use Rattle.std.proofs.lemmas.List.{get_or-map, length-map}
 use Rattle.std.proofs.lemmas.List.Elements.{All-head, All-tail, All-weaker, Contains-get_or}
-use Rattle.std.proofs.lemmas.Option.{slice_get-get_or}
 use Rattle.spec_linear.specs.Solution.{Constraint}
 use Rattle.spec_numbers.specs.Texts.{Text}
 use Rattle.spec_numbers.proofs.Tests.{nat_eq-self, nat_eq-same}
 use Rattle.spec_terms.specs.Term.{Subst, Var, Number, Name, Compound, apply, followed_by, named}
 use Rattle.spec_terms.specs.Unifier.{Equation, IsUnifier, HasNoUnifier, read_under}
-use Rattle.spec_terms.specs.Names.{AreDifferentBelow, EachNameInPairs, named_pairs, named_images}
+use Rattle.spec_terms.specs.Names.{EachNameInPairs, named_pairs, named_images}
 use Rattle.spec_terms.proofs.Renamed.{unifier_by_texts, none_by_texts}
 use Rattle.spec_terms.proofs.Substitution.{apply-followed_by, named-apply}
 use Rattle.spec_syntax.specs.Trees.{Tree}
@@ -26,6 +25,7 @@ use Rattle.cq_term.specs.Meaning.{HeapTerm, at, blank}
 use Rattle.cq_term.specs.Names.{HasNamesBelow}
 use Rattle.cq_term.specs.Shown.{IsUnbound}
 use Rattle.cq_term.specs.Trees.{tree, trees, KnowsTerms}
+use Rattle.cq_term.proofs.Known.{each_below, different_below}
 use Rattle.cq_term.proofs.Meanings.{at-map}
 use Rattle.cq_term.specs.Pairs.{IsLive, equations}
 use Rattle.cq_term.specs.declared.walk.pairs.Pair.{Pair}
@@ -38,7 +38,7 @@ use Rattle.cq_settle.specs.Ready.{MayBeTold, with_terms}
 use Rattle.cq_settle.specs.Equal.{MayBeEqual, AllEqual, IsWork, work_of, CallsFor}
 use Rattle.cq_settle.proofs.Alone.{StandsIn, stands_or_not, stays_itself}
 use Rattle.cq_settle.proofs.RestBound.{bound_through}
-use Rattle.cq_settle.proofs.Names.{occurs_named, named_variable, each_below, image_below}
+use Rattle.cq_settle.proofs.Names.{occurs_named, named_variable, image_below}
 use Rattle.cq_settle.proofs.Pairs.{in_pairs}
 use Rattle.cq_settle.proofs.Told.{themselves, itself, live}
 
@@ -79,10 +79,6 @@ each_number : (P : ℕ → Type 0) (vs : List VarId) → ((v : VarId) → Contai
 each_number P vs h i d l =
     let within : i < length vs = omega (arith, l, length-map vs (λ (x : VarId). x.0)) in
     subst P (sym (get_or-map (λ (x : VarId). x.0) vs i (record { 0 = d }) d within)) (h (get_or vs i (record { 0 = d })) (Contains-get_or vs i (record { 0 = d }) within))
-
-different_below : (texts : List Text) → AreDifferent texts → AreDifferentBelow (length texts) (text_of texts)
-different_below texts different i j in_i in_j same =
-    different i j (text_of texts i) (slice_get-get_or texts i [] in_i) (slice_get-get_or texts j [] in_j ∙ ap (λ t. Some t) (sym same))
 
 -- each name in the pairs has a text
 known_pairs : (texts : List Text) (h : Terms) → KnowsTerms texts h.terms → (ps : List Pair) → All (IsLive h.terms) ps → EachNameInPairs (λ a. a < length texts) (equations h.terms ps)

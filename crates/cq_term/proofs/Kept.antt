@@ -2,7 +2,7 @@
 use Rattle.std.proofs.Common.{◌≡◌, ◌≢◌, ℕ, zero, suc, ◌+◌, ◌<◌, ◌≤◌, List, [], ◌∷◌, ◌++◌, length, Option, None, Some, refl, sym, ap, ◌∙◌, subst, inl, inr, ◌⊎◌, get_or, arith, length-append, Bool, true, false, cond, map, eq-eqb, add-one}
 use Rattle.std.proofs.lemmas.List.{get_or_push, get_or-map, length-map, map-append}
 use Rattle.std.proofs.lemmas.Option.{slice_get_within, same_Some, none-some, MatchOption-at_none, MatchOption-at_some, slice_get_read, slice_get-get_or, slice_get-map}
-use Rattle.std.proofs.lemmas.List.{get_or_read, get_or_past}
+use Rattle.std.proofs.lemmas.List.{get_or_past}
 use Rattle.std.specs.Option.{option_map}
 use Rattle.std.proofs.lemmas.Bool.{cases_eq, cases_lt, eqb-true}
 use Rattle.std.specs.Prelude.{slice_get, MatchOption, ◌==◌, All}
@@ -516,24 +516,11 @@ no_arguments cells vars order heap id e r (built.Number n) s other = ap argument
 no_arguments cells vars order heap id e r (built.Name a) s other = ap arguments (sym r.same ∙ heap.heads e (built.Name a) s)
 no_arguments cells vars order heap id e r (built.Compound g args) s other = absurd (other g args refl)
 
--- the term of a variable
-module _ (cells : List Built) (vars : List ℕ) (order : List Binding) (heap : IsHeap cells vars order) (v i : ℕ) (home : slice_get vars v ≡ Some i) where
-  pub home_live : i < length (meanings cells order)
-  home_live = rw (length-meanings cells order) (heap.homes v i home)
-
 pub all_to_below : (n : ℕ) (is : List ℕ) → All (λ i. i < n) is → AllBelow n is
 all_to_below n [] h = tt
 all_to_below n (i ∷ is) h = (h 0 0 (omega arith), all_to_below n is (λ k d lt. h (suc k) d (omega arith)))
 
 -- an argument of a term whose arguments are those of a cell
-pub arg_within : (ts : List HeapTerm) (us : List HeapTerm) (is : List ℕ) (i : ℕ) → us ≡ map (at ts) is → i < length us → i < length is
-arg_within ts us is i e lt = let size : length (map (at ts) is) ≡ length is = rw length-map in omega (arith, lt, ap length e)
-
-pub arg_live : (n : ℕ) (is : List ℕ) (e i x : ℕ) → i < length is → x ≡ get_or is i x → AllBelow e is → e < n → x < n
-arg_live n is e i x lt at_i below le =
-    let here : x ≡ get_or is i 0 = get_or_read is i x lt at_i 0 in
-    omega (arith, below_at e is i below lt)
-
 pub arg_is : (ts : List HeapTerm) (us : List HeapTerm) (is : List ℕ) (i x : ℕ) → us ≡ map (at ts) is → i < length is → x ≡ get_or is i x → slice_get us i ≡ Some (at ts x)
 arg_is ts us is i x e lt at_i =
     ap (λ (l : List HeapTerm). slice_get l i) e ∙ slice_get-map (at ts) is i ∙ ap (option_map (at ts)) (slice_get_read is (length is) i x refl lt at_i)

@@ -1,10 +1,14 @@
 -- What keeps the names of a term below a count.
-use Rattle.std.proofs.Common.{ℕ, ◌<◌, ◌≤◌, List, [], ◌∷◌, refl, arith, inl, inr}
+use Rattle.std.proofs.Common.{ℕ, ◌<◌, ◌≤◌, ◌∙◌, List, [], ◌∷◌, length, Some, refl, sym, ap, arith, inl, inr}
 use Rattle.std.specs.Prelude.{All}
 use Rattle.std.proofs.lemmas.List.Elements.{All-head, All-tail}
+use Rattle.std.proofs.lemmas.Option.{slice_get-get_or}
+use Rattle.spec_numbers.specs.Texts.{Text}
 use Rattle.spec_terms.specs.Term.{Terms, Subst, Var, Number, Name, Compound, one, more, OccursIn, apply, apply_all, terms_of, with_arguments}
+use Rattle.spec_terms.specs.Names.{EachName, EachNameIn, AreDifferentBelow}
 use Rattle.cq_term.specs.Meaning.{HeapTerm}
 use Rattle.cq_term.specs.Names.{HasNamesBelow, HaveNamesBelow, PutsNamesBelow}
+use Rattle.cq_term.specs.Texts.{AreDifferent, text_of}
 
 module _ (m n : ℕ) (le : m ≤ n) where
   mutual
@@ -37,3 +41,21 @@ names_terms_of n t (u ∷ us) h all = (h, names_terms_of n u us (All-head (HasNa
 pub names_over : (n f : ℕ) (ts : List HeapTerm) → f < n → All (HasNamesBelow n) ts → HasNamesBelow n (with_arguments f ts)
 names_over n f [] lt all = lt
 names_over n f (t ∷ ts) lt all = (lt, names_terms_of n t ts (All-head (HasNamesBelow n) t ts all) (All-tail (HasNamesBelow n) t ts all))
+
+-- ---- names with texts
+
+module _ (n : ℕ) where
+  mutual
+    pub each_below : (t : HeapTerm) → HasNamesBelow n t → EachName (λ a. a < n) t
+    each_below (Var v) h = tt
+    each_below (Number q) h = tt
+    each_below (Name a) h = h
+    each_below (Compound f ts) h = (h.0, each_in_below ts h.1)
+
+    each_in_below : (ts : Terms ℕ) → HaveNamesBelow n ts → EachNameIn (λ a. a < n) ts
+    each_in_below (one t) h = each_below t h
+    each_in_below (more t ts) h = (each_below t h.0, each_in_below ts h.1)
+
+pub different_below : (texts : List Text) → AreDifferent texts → AreDifferentBelow (length texts) (text_of texts)
+different_below texts different i j in_i in_j same =
+    different i j (text_of texts i) (slice_get-get_or texts i [] in_i) (slice_get-get_or texts j [] in_j ∙ ap (λ t. Some t) (sym same))

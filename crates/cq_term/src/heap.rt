@@ -11,7 +11,7 @@ ghost use Rattle.cq_term.specs.Names.{HasNamesOfTerms};
 ghost use Rattle.cq_term.specs.Shown.{view_of, arguments, variables_from, IsUnbound};
 
 use crate::atoms::Atom;
-use crate::lists::{Cell, Lists, push_reversed, unbind, unlearn, word};
+use crate::lists::{Cell, Lists, push_reversed, unbind, unlearn};
 use crate::names::{Newly, TermId};
 use crate::view::View;
 use crate::walk::Pair;
@@ -107,7 +107,7 @@ impl Heap {
         ensures room { self.old.room ≤ self.new.room }
         ensures err { OnErr result (self.new.now ≡ self.old.now) }
     {
-        match word(number) {
+        match number.to_i64() {
             Some(whole) => self.whole(whole),
             None => self.wide(number),
         }

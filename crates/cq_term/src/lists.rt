@@ -1,7 +1,6 @@
 // The lists that a heap is made of: cells of one small size, and beside them what has no room there.
 
 ghost use Rattle.std.specs.Prelude.{◌≡◌, ◌≤◌, ◌<◌, ◌+◌, ◌++◌, length, take, drop, reverse, vec_len, vec_capacity, IfSome, IfOk, OnOk, OnErr};
-ghost use Rattle.spec_numbers.specs.Rational.{int_ℚ};
 ghost use Rattle.cq_term.specs.Layout.{AreLearnt, AreNoted, Closes, IsWhole, Leads, Learns, contents, forgotten, open_cell, restored, with_vars};
 
 use crate::atoms::Atom;
@@ -182,18 +181,6 @@ fn opened(cell: Cell) -> Cell
             start,
         },
         other => other,
-    }
-}
-
-/// The number as one word, where it is whole and fits.
-pub(crate) fn word(number: Frac) -> Option<i64>
-    ensures { IfSome result (λ n. number ≡ int_ℚ n) }
-{
-    let (numerator, denominator) = number.parts();
-    if denominator == 1 {
-        i64::try_from(numerator).ok()
-    } else {
-        None
     }
 }
 

@@ -6,7 +6,6 @@ use Rattle.std.proofs.lemmas.List.Elements.{All-push}
 use Rattle.cq_term.proofs.Arguments.{all_one}
 use Rattle.spec_terms.specs.Term.{Occurs}
 use Rattle.cq_term.specs.Meaning.{HeapTerm, at}
-use Rattle.cq_term.specs.Ground.{IsGround}
 use Rattle.cq_term.specs.Shown.{view_of}
 use Rattle.cq_term.specs.declared.view.View.TheVariants as view
 use Rattle.cq_term.specs.Visits.{Visits, VisitsArguments, nothing_visited}
@@ -106,14 +105,3 @@ walks_start ts v id work walked visited live is none fresh =
     subst (λ (l : List ℕ). Walks ts v (at ts id) l visited.known walked true) (sym is)
     (subst (λ (l : List ℕ). Walks ts v (at ts id) (id ∷ []) visited.known l true) (sym none)
     (subst (λ (w : Visits). Walks ts v (at ts id) (id ∷ []) w.known [] true) (sym fresh) (started ts v id live)))
-
--- nothing is left
-module _ (ts : List HeapTerm) (v id : ℕ) (work known walked : List ℕ) (clean : Bool) (walks : Walks ts v (at ts id) work known walked clean) (none : work ≡ []) where
-  pub walked_absent : Occurs v (at ts id) → ⊥
-  walked_absent o = subst (λ (l : List ℕ). StandsAmong v (map (at ts) l)) none (walks.sought.looks.same.0 o)
-
-  pub walked_live : All (λ i. i < length ts) walked
-  walked_live k d lt = (walks.parts k d lt).0
-
-  pub walked_ground : clean ≡ true → All (λ i. IsGround (at ts i)) walked
-  walked_ground e k d lt w o = subst (λ (l : List ℕ). StandsAmong w (map (at ts) l)) none ((walks.all e w).looks.same.0 ((walks.parts k d lt).1 w o))

@@ -1,6 +1,6 @@
 -- Lists that go on from others: their lengths and places, and going on twice.
-use Rattle.std.proofs.Common.{◌≡◌, ℕ, zero, suc, ◌<◌, ◌≤◌, List, [], ◌∷◌, ◌++◌, length, refl, sym, ap, ◌∙◌, get_or, arith, append_assoc, length-append}
-use Rattle.std.specs.Prelude.{All, slice_get}
+use Rattle.std.proofs.Common.{◌≡◌, ℕ, ◌<◌, ◌≤◌, List, [], ◌++◌, length, sym, ap, ◌∙◌, get_or, arith, append_assoc, length-append}
+use Rattle.std.specs.Prelude.{All}
 use Rattle.std.proofs.lemmas.List.{append-nil, get_or_append_left}
 use Rattle.std.proofs.lemmas.List.Elements.{All-weaker}
 use Rattle.spec_numbers.specs.Prefixes.{IsPrefix}
@@ -8,9 +8,6 @@ use Rattle.spec_numbers.specs.Prefixes.{IsPrefix}
 module _ {X : Type 0} where
   pub prefix_same : (xs ys : List X) → ys ≡ xs → IsPrefix xs ys
   prefix_same xs ys e = ([], e ∙ sym (append-nil xs))
-
-  pub prefix_push : (xs ys zs : List X) (x : X) → IsPrefix xs ys → zs ≡ ys ++ x ∷ [] → IsPrefix xs zs
-  prefix_push xs ys zs x p e = (p.0 ++ x ∷ [], e ∙ ap (λ l. l ++ x ∷ []) p.1 ∙ append_assoc xs p.0 (x ∷ []))
 
   pub prefix_both : (xs ys zs : List X) → IsPrefix xs ys → IsPrefix ys zs → IsPrefix xs zs
   prefix_both xs ys zs p q = (p.0 ++ q.0, q.1 ∙ ap (λ l. l ++ q.0) p.1 ∙ append_assoc xs p.0 q.0)

@@ -1,7 +1,6 @@
 // One part of a pattern, with the marks that a walk reads off it.
 
 ghost use Rattle.std.specs.Prelude.{◌≡◌, ◌<◌, ◌^◌, ℕ, IfSome, IfNone, IfOk};
-ghost use Rattle.spec_numbers.specs.Rational.{int_ℚ};
 ghost use Rattle.cq_term.specs.declared.view.View.TheVariants.{Compound, Number};
 ghost use Rattle.cq_resolve.specs.Pattern.{IsBelow};
 ghost use Rattle.cq_resolve.specs.Marks.{shown, size_of, top_of, IsLeaf};
@@ -38,7 +37,7 @@ impl Part {
     pub(crate) fn number(alloc: Global, number: Frac) -> Result<Part, AllocError>
         ensures { IfOk result (λ p. shown p ≡ Number number) }
     {
-        match word(number) {
+        match number.to_i64() {
             Some(whole) => Ok(Part::Whole(whole)),
             None => {
                 let wide = Box::new(alloc, number)?;
@@ -91,17 +90,5 @@ impl Part {
             Part::Whole(_) | Part::Wide(_) | Part::Name(_) => 0,
             Part::Compound { top, .. } => *top as usize,
         }
-    }
-}
-
-/// The number as one word, where it is whole and fits.
-fn word(number: Frac) -> Option<i64>
-    ensures { IfSome result (λ n. number ≡ int_ℚ n) }
-{
-    let (numerator, denominator) = number.parts();
-    if denominator == 1 {
-        i64::try_from(numerator).ok()
-    } else {
-        None
     }
 }

@@ -8,7 +8,7 @@ use mir.Val.{SFits}
 use mir.Syntax.{w128}
 use Rattle.spec_numbers.specs.Rational.{ℚ, int_ℚ, ratio, denominator}
 use Rattle.spec_numbers.proofs.RationalLemmas.{ratio_back}
-use Rattle.cq_resolve.proofs.stored.part.word.Goals as goal
+use Rattle.cq_frac.proofs.Frac.to_i64.Goals as goal
 
 whole_number : (q : ℚ) (n d : ℤ) → n ≡ q.numerator → d ≡ pos (denominator q) → of_z w128 d ≡ 1 → q ≡ int_ℚ n
 unfolding int_ℚ
@@ -23,6 +23,6 @@ kept q n P (Err x) o e ok is = rw is tt
 pub returns-then-denominator-eq1 : goal.returns-then-denominator-eq1
 returns-then-denominator-eq1 c =
     let fits : SFits w128 c.parts-numerator.result.0 = search rules in
-    kept c.args.number c.parts-numerator.result.0 _ c.try_from.result c.ok.result
-    (whole_number c.args.number c.parts-numerator.result.0 c.parts-numerator.result.1 c.parts-numerator.ensures.numerator c.parts-numerator.ensures.denominator c.if-denominator-eq1.true)
+    kept c.args.self c.parts-numerator.result.0 _ c.try_from.result c.ok.result
+    (whole_number c.args.self c.parts-numerator.result.0 c.parts-numerator.result.1 c.parts-numerator.ensures.numerator c.parts-numerator.ensures.denominator c.if-denominator-eq1.true)
     (rw (to_z-of_z w128 c.parts-numerator.result.0 fits) at c.try_from.ensures) c.ok.ensures.value
