@@ -1,5 +1,5 @@
 -- The text of a term takes no notice of the names of variables that do not stand in it.
-use Rattle.std.proofs.Common.{◌≡◌, ℕ, Bool, true, false, not, ◌&&◌, List, [], ◌∷◌, ◌++◌, codes, length, Option, Some, None, refl, ap, ◌∙◌, nat_le, inl, inr}
+use Rattle.std.proofs.Common.{◌≡◌, ℕ, Bool, true, false, not, ◌&&◌, List, [], ◌∷◌, ◌++◌, codes, length, Option, Some, None, refl, ap, ap₂, ◌∙◌, nat_le, inl, inr}
 use Rattle.std.specs.Prelude.{◌==◌, bytes_eq, if◌then◌else◌, filter, ⊤}
 use Rattle.spec_numbers.specs.Rational.{ℚ}
 use Rattle.spec_syntax.specs.declared.operators.OpDef.{OpDef}
@@ -14,7 +14,7 @@ use Rattle.spec_syntax.specs.Writing.{Place, Alone, InList, priority, is_negativ
 use Rattle.spec_text.specs.Pieces.{Piece, piece, tokens, pieces, pieces_at, argument_pieces, infix_piece}
 use Rattle.spec_text.specs.Pieces as pc
 use Rattle.spec_text.specs.declared.writing.Style.{Style}
-use Rattle.spec_text.specs.Texts.{token_text, text_of, is_apart, joined, seen}
+use Rattle.spec_text.specs.Texts.{token_text, text_of, own_blank, blank_behind, is_apart, joined, seen}
 use Rattle.spec_text.specs.Written.{given_name, is_unnamed, shown, counted_name, pieces_within, text_by, text_within}
 
 -- ---- the variables of a term's pieces are those of the term
@@ -182,11 +182,15 @@ module _ (style : Style) (name other : ℕ → Text) where
   unfolding is_apart
   apart_same p q e f = rw (e, f) refl
 
+  behind_same : (p : Piece) (ps : List Piece) → Same (p ∷ ps) → blank_behind style name p ps ≡ blank_behind style other p ps
+  behind_same p [] h = refl
+  behind_same p (q ∷ qs) h = rw (apart_same p q (token_same p.token h.0) (token_same q.token h.1.0)) refl
+
   joined_same : (ps : List Piece) → Same ps → joined style name ps ≡ joined style other ps
   joined_same [] h = refl
-  joined_same (p ∷ []) h = rw (token_same p.token h.0) refl
-  joined_same (p ∷ q ∷ qs) h =
-      rw (apart_same p q (token_same p.token h.0) (token_same q.token h.1.0), joined_same (q ∷ qs) h.1, token_same p.token h.0) refl
+  joined_same (p ∷ ps) h =
+      ap₂ (λ (a b : Text). own_blank p ++ (a ++ (own_blank p ++ (b ++ joined style name ps)))) (token_same p.token h.0) (behind_same p ps h)
+      ∙ ap (λ (r : Text). own_blank p ++ (text_of style other p ++ (own_blank p ++ (blank_behind style other p ps ++ r)))) (joined_same ps h.1)
 
   same_if : (b : Bool) (ps qs : List Piece) → Same ps → Same qs → Same (if b then ps else qs)
   same_if true ps qs h k = h

@@ -3,9 +3,9 @@ use Rattle.std.proofs.Common.{◌≡◌, ℕ, Bool, true, false, List, [], ◌�
 use Rattle.std.specs.Prelude.{not, ◌&&◌, ◌==◌, if◌then◌else◌, map, Option, Some, None}
 use Rattle.spec_numbers.specs.Texts.{Text}
 use Rattle.spec_text.specs.Pieces.{Piece}
-use Rattle.spec_text.specs.Texts.{text_of, joined, seen, is_apart as is_apart_of, blank_behind}
+use Rattle.spec_text.specs.Texts.{text_of, own_blank, joined, seen, is_apart as is_apart_of, blank_behind}
 use Rattle.spec_text.specs.declared.writing.Style.{Style}
-use Rattle.cq_write.specs.Spelled.{Written, spelled, put_all, blank_before, last_piece, blank_line}
+use Rattle.cq_write.specs.Spelled.{Written, spelled, put_all, blank_before, framed, last_piece, blank_line}
 use Rattle.cq_write.specs.declared.line.Last.{Last}
 
 module _ (style : Style) (name : ℕ → Text) where
@@ -19,26 +19,28 @@ module _ (style : Style) (name : ℕ → Text) where
   front_is p [] = refl
   front_is p (q ∷ qs) = refl
 
-  joined_more : (text blank own behind rest : Text) → (text ++ (blank ++ own)) ++ (behind ++ rest) ≡ text ++ (blank ++ (own ++ (behind ++ rest)))
-  joined_more text blank own behind rest = append_assoc text (blank ++ own) (behind ++ rest) ∙ ap (λ t. text ++ t) (append_assoc blank own (behind ++ rest))
+  joined_more : (line blank own text rest : Text) → (line ++ (blank ++ (own ++ (text ++ own)))) ++ rest ≡ line ++ (blank ++ (own ++ (text ++ (own ++ rest))))
+  joined_more line blank own text rest =
+      append_assoc line (blank ++ (own ++ (text ++ own))) rest
+      ∙ ap (λ t. line ++ t) (append_assoc blank (own ++ (text ++ own)) rest ∙ ap (λ t. blank ++ t) (append_assoc own (text ++ own) rest ∙ ap (λ t. own ++ t) (append_assoc text own rest)))
 
   put_by : (line : Written) (p : Piece) (ps : List Piece) (b : Bool) →
-      (let more : Written = record { text = line.text ++ (blank_before line.last (spelled style name p) ++ text_of style name p); last = Some (last_piece (spelled style name p)) } in
+      (let more : Written = record { text = line.text ++ (blank_before line.last (spelled style name p) ++ framed (spelled style name p)); last = Some (last_piece (spelled style name p)) } in
       (put_all line (map (spelled style name) ps)).text ≡ line.text ++ (front line.last (seen style name ps) ++ joined style name (seen style name ps)) →
       (put_all more (map (spelled style name) ps)).text ≡ more.text ++ (front more.last (seen style name ps) ++ joined style name (seen style name ps)) →
       (put_all (if b then line else more) (map (spelled style name) ps)).text ≡ line.text ++ (front line.last (if b then seen style name ps else p ∷ seen style name ps) ++ joined style name (if b then seen style name ps else p ∷ seen style name ps)))
   put_by line p ps true skipped kept = skipped
   put_by line p ps false skipped kept =
       kept
-      ∙ ap (λ t. (line.text ++ (blank_before line.last (spelled style name p) ++ text_of style name p)) ++ (t ++ joined style name (seen style name ps))) (front_is p (seen style name ps))
-      ∙ joined_more line.text (blank_before line.last (spelled style name p)) (text_of style name p) (blank_behind style name p (seen style name ps)) (joined style name (seen style name ps))
+      ∙ ap (λ t. (line.text ++ (blank_before line.last (spelled style name p) ++ framed (spelled style name p))) ++ (t ++ joined style name (seen style name ps))) (front_is p (seen style name ps))
+      ∙ joined_more line.text (blank_before line.last (spelled style name p)) (own_blank p) (text_of style name p) (blank_behind style name p (seen style name ps) ++ joined style name (seen style name ps))
 
   pub put_joined : (line : Written) (ps : List Piece) →
       (put_all line (map (spelled style name) ps)).text ≡ line.text ++ (front line.last (seen style name ps) ++ joined style name (seen style name ps))
   put_joined line [] = sym (append-nil line.text)
   put_joined line (p ∷ ps) =
       put_by line p ps ((length (text_of style name p) == 0) && not p.has_blanks) (put_joined line ps)
-      (put_joined (record { text = line.text ++ (blank_before line.last (spelled style name p) ++ text_of style name p); last = Some (last_piece (spelled style name p)) }) ps)
+      (put_joined (record { text = line.text ++ (blank_before line.last (spelled style name p) ++ framed (spelled style name p)); last = Some (last_piece (spelled style name p)) }) ps)
 
   front_none : (ps : List Piece) → front None ps ≡ []
   front_none [] = refl

@@ -34,12 +34,21 @@ run_together last first = (passes is_symbol last && passes is_symbol first) || (
 abbrev pub would_bind : Bool → Text → Bool
 would_bind is_minus text = begins_with 40 text || (is_minus && begins is_ascii_digit text)
 
--- a blank stands between the last piece and this one
+-- a blank stands between the last piece and this one, where neither has its own
 abbrev pub is_apart : Last → Spelled → Bool
 is_apart last p =
-    (last.manner.has_blanks || p.manner.has_blanks) || run_together last.character (first_char p.text) || (last.manner.is_prefix && would_bind last.is_minus p.text)
+    not (last.manner.has_blanks || p.manner.has_blanks)
+    && (run_together last.character (first_char p.text) || (last.manner.is_prefix && would_bind last.is_minus p.text))
 
--- what stands before a piece
+-- the blank on each side of a piece that has one there
+abbrev pub own_blank : Spelled → Text
+own_blank p = if p.manner.has_blanks then codes " " else []
+
+-- a piece with its own blanks
+abbrev pub framed : Spelled → Text
+framed p = own_blank p ++ (p.text ++ own_blank p)
+
+-- what stands before a piece with its own blanks
 abbrev pub blank_before : Option Last → Spelled → Text
 blank_before None p = []
 blank_before (Some last) p = if is_apart last p then codes " " else []
@@ -54,7 +63,7 @@ is_unseen p = (length p.text == 0) && not p.manner.has_blanks
 
 -- one more piece, which is passed over where it leaves nothing
 abbrev pub put : Written → Spelled → Written
-put line p = if is_unseen p then line else record { text = line.text ++ (blank_before line.last p ++ p.text); last = Some (last_piece p) }
+put line p = if is_unseen p then line else record { text = line.text ++ (blank_before line.last p ++ framed p); last = Some (last_piece p) }
 
 -- more pieces
 abbrev pub put_all : Written → List Spelled → Written

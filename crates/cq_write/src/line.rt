@@ -74,12 +74,13 @@ fn would_bind(is_minus: bool, text: &str) -> bool
     }
 }
 
+/// Whether a blank stands between neighbours of which neither has its own.
 fn is_apart(last: Last, text: &str, manner: Manner) -> bool
     ensures { result ≡ is_apart_of last (record { text = text.now; manner = manner }) }
 {
-    (last.manner.has_blanks || manner.has_blanks)
-        || run_together(last.character, first_char(text.as_bytes()))
-        || (last.manner.is_prefix && would_bind(last.is_minus, text))
+    !(last.manner.has_blanks || manner.has_blanks)
+        && (run_together(last.character, first_char(text.as_bytes()))
+            || (last.manner.is_prefix && would_bind(last.is_minus, text)))
 }
 
 /// The last of these bytes, as a character.
@@ -163,7 +164,13 @@ impl Line {
         {
             self.text.push(b' ')?;
         }
+        if manner.has_blanks {
+            self.text.push(b' ')?;
+        }
         self.text.extend_from_slice(piece.as_bytes())?;
+        if manner.has_blanks {
+            self.text.push(b' ')?;
+        }
         self.last = Some(Last {
             manner,
             character,

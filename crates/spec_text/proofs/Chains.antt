@@ -24,6 +24,24 @@ abbrev pub IsNamed : Token → Type 0
 IsNamed (Named f quoted) = ⊤
 IsNamed tok = ⊥
 
+-- a blank may follow it
+pub named_last : (tok : Token) → IsNamed tok → IsLast tok
+named_last (Named f quoted) h = tt
+named_last (Variable v) h = elim h [ ]
+named_last (Numeral q) h = elim h [ ]
+named_last (Codes bytes) h = elim h [ ]
+named_last (Functor f) h = elim h [ ]
+named_last Minus h = elim h [ ]
+named_last Open h = elim h [ ]
+named_last Close h = elim h [ ]
+named_last OpenList h = elim h [ ]
+named_last CloseList h = elim h [ ]
+named_last OpenCurly h = elim h [ ]
+named_last CloseCurly h = elim h [ ]
+named_last Comma h = elim h [ ]
+named_last Bar h = elim h [ ]
+named_last End h = elim h [ ]
+
 -- only names have blanks round them
 abbrev pub HasBlanksByName : Piece → Type 0
 HasBlanksByName p = p.has_blanks ≡ true → IsNamed p.token

@@ -1,5 +1,5 @@
 -- The text that is written of a term reads as the term.
-use Rattle.std.proofs.Common.{◌≡◌, ℕ, ◌+◌, Bool, true, false, List, [], ◌∷◌, ◌++◌, codes, length, length-append, append_assoc, refl, sym, ap, subst, ◌∙◌, arith, nat_le, filter}
+use Rattle.std.proofs.Common.{◌≡◌, ◌⊎◌, inl, inr, ℕ, ◌+◌, Bool, true, false, append-nil, List, [], ◌∷◌, ◌++◌, codes, length, length-append, append_assoc, refl, sym, ap, subst, ◌∙◌, arith, nat_le, filter}
 use Rattle.std.specs.Prelude.{◌==◌, if◌then◌else◌}
 use Rattle.std.specs.List.{position_or_len}
 use Rattle.std.proofs.lemmas.Bool.Decides.{nat_tests}
@@ -10,14 +10,14 @@ use Rattle.spec_syntax.specs.GrammarTokens.{next_token}
 use Rattle.spec_syntax.proofs.Again.{end_again}
 use Rattle.spec_syntax.specs.Tokens.{Token, End}
 use Rattle.spec_syntax.specs.Trees.{Tree}
-use Rattle.spec_syntax.specs.TextTokens.{Variables}
+use Rattle.spec_syntax.specs.TextTokens.{Variables, variables_after}
 use Rattle.spec_syntax.specs.Writing.{IsTable, Alone, priority, written}
 use Rattle.spec_syntax.proofs.Written.{fits}
 use Rattle.spec_syntax.proofs.ReadBack.{round_trip}
 use Rattle.spec_text.specs.Readings.{AreTokens, none, next, Clause, Reads, clause}
 use Rattle.spec_text.specs.declared.writing.Style.TheVariants.{Quoted}
 use Rattle.spec_text.specs.Pieces.{Piece, tokens, pieces, unless}
-use Rattle.spec_text.specs.Texts.{text_of, is_apart, blank_behind, joined, seen}
+use Rattle.spec_text.specs.Texts.{text_of, own_blank, is_apart, blank_behind, joined, seen}
 use Rattle.spec_text.specs.Written.{counted_name, is_unnamed, shown, text_by, writeq}
 use Rattle.spec_text.specs.ReadingBack.{NamesAreBare, CanBeRead, counted, ReadsBack}
 use Rattle.spec_text.proofs.Same.{same}
@@ -28,7 +28,7 @@ use Rattle.spec_text.proofs.Stops.{GoesNoFurther, IsCut, AllFit, AllStop, count_
 use Rattle.spec_text.proofs.TokenCuts.{token_is_cut}
 use Rattle.spec_text.proofs.Numbered.{numbered_fit}
 use Rattle.spec_text.proofs.Touching.{stops_at_blank, stops_before}
-use Rattle.spec_text.proofs.Chains.{AreChained, pieces_chained}
+use Rattle.spec_text.proofs.Chains.{AreChained, named_last, pieces_chained}
 
 -- ---- lists of tokens
 
@@ -38,10 +38,6 @@ on_text a b {at} {to} {v} {w} {ts} e r = subst (λ text. AreTokens text at v ts 
 from_to : (text : List ℕ) (at at' to to' : ℕ) {v w : Variables} {ts : List Token} → at ≡ at' → to ≡ to' → AreTokens text at v ts to w → AreTokens text at' v ts to' w
 from_to text at at' to to' {v} {w} {ts} e g r = subst (λ x. AreTokens text x v ts to' w) e (subst (λ y. AreTokens text at v ts y w) g r)
 
-behind_each_other : (text : List ℕ) {at mid to : ℕ} {u v w : Variables} {ts us : List Token} → AreTokens text at u ts mid v → AreTokens text mid v us to w → AreTokens text at u (ts ++ us) to w
-behind_each_other text none r = r
-behind_each_other text (next e s q) r = next e s (behind_each_other text q r)
-
 moved : (text : List ℕ) (at at' : ℕ) {to : ℕ} {v w : Variables} {tok : Token} {ts : List Token} → next_token text at ≡ next_token text at' → AreTokens text at' v (tok ∷ ts) to w → AreTokens text at v (tok ∷ ts) to w
 moved text at at' e (next f s r) = next (e ∙ f) s r
 
@@ -49,65 +45,134 @@ moved text at at' e (next f s r) = next (e ∙ f) s r
 blank_passed : (before more : List ℕ) → next_token (before ++ 32 ∷ more) (length before) ≡ next_token (before ++ 32 ∷ more) (length before + 1)
 blank_passed before more = rw (drop-before before (32 ∷ more), drop-next before more 32) refl
 
-behind_blank : (b m : List ℕ) (n : ℕ) {v w : Variables} {tok : Token} {ts : List Token} →
-    AreTokens ((b ++ 32 ∷ []) ++ m) (length (b ++ 32 ∷ [])) v (tok ∷ ts) (length (b ++ 32 ∷ []) + n) w → AreTokens (b ++ (32 ∷ m)) (length b) v (tok ∷ ts) (length b + (1 + n)) w
-behind_blank b m n r =
-    let e : (b ++ 32 ∷ []) ++ m ≡ b ++ (32 ∷ m) = rw append_assoc refl in
-    let l : length (b ++ 32 ∷ []) ≡ length b + 1 = length-append b (32 ∷ []) in
-    moved (b ++ (32 ∷ m)) (length b) (length b + 1) (blank_passed b m)
-    (from_to (b ++ (32 ∷ m)) _ (length b + 1) _ (length b + (1 + n)) l (omega (arith, l)) (on_text _ _ e r))
+-- there, a blank or none
+abbrev IsBlank : Text → Type 0
+IsBlank blank = (blank ≡ []) ⊎ (blank ≡ codes " ")
+
+blank_by : (x : Bool) → IsBlank (if x then codes " " else [])
+blank_by true = inr refl
+blank_by false = inl refl
+
+own_is : (p : Piece) → IsBlank (own_blank p)
+own_is p = blank_by p.has_blanks
+
+behind_is : (p : Piece) (ps : List Piece) → IsBlank (blank_behind Quoted counted_name p ps)
+behind_is p [] = inl refl
+behind_is p (q ∷ qs) = blank_by (is_apart Quoted counted_name p q)
+
+over_blank : (b blank m : List ℕ) {to : ℕ} {v w : Variables} {tok : Token} {ts : List Token} → IsBlank blank
+    → AreTokens (b ++ (blank ++ m)) (length (b ++ blank)) v (tok ∷ ts) to w → AreTokens (b ++ (blank ++ m)) (length b) v (tok ∷ ts) to w
+over_blank b blank m {to} {v} {w} {tok} {ts} is r = elim is [
+  | inl e ↦ from_to (b ++ (blank ++ m)) _ _ _ _ (ap (λ x. length (b ++ x)) e ∙ ap length (append-nil b)) refl r
+  | inr e ↦ subst (λ x. AreTokens (b ++ (x ++ m)) (length b) v (tok ∷ ts) to w) (sym e) (passed (subst (λ x. AreTokens (b ++ (x ++ m)) (length (b ++ x)) v (tok ∷ ts) to w) e r))
+]
+  where
+    passed : AreTokens (b ++ 32 ∷ m) (length (b ++ 32 ∷ [])) v (tok ∷ ts) to w → AreTokens (b ++ 32 ∷ m) (length b) v (tok ∷ ts) to w
+    passed q = moved (b ++ 32 ∷ m) (length b) (length b + 1) (blank_passed b m) (from_to (b ++ 32 ∷ m) _ (length b + 1) _ _ (length-append b (32 ∷ [])) refl q)
+
+-- before others, of which there is one at least
+over_more : (b blank m : List ℕ) (us : List Token) (tok : Token) (ts : List Token) {to : ℕ} {v w : Variables} → IsBlank blank
+    → AreTokens (b ++ (blank ++ m)) (length (b ++ blank)) v (us ++ tok ∷ ts) to w → AreTokens (b ++ (blank ++ m)) (length b) v (us ++ tok ∷ ts) to w
+over_more b blank m [] tok ts is r = over_blank b blank m is r
+over_more b blank m (u ∷ us) tok ts is r = over_blank b blank m is r
 
 -- ---- neighbours
 
 -- each token of chained pieces goes no further than its text
 all_stop : (ps : List Piece) (k last : ℕ) → AllFit k (tokens ps) last → AreChained ps → AllStop ps (codes " .\n")
 all_stop [] k last fit chained = tt
-all_stop (p ∷ []) k last fit chained = (stops_at_blank p.token (codes ".\n") chained.1, tt)
+all_stop (p ∷ []) k last fit chained = (by p.has_blanks, tt)
+  where
+    by : (x : Bool) → GoesNoFurther p.token ((if x then codes " " else []) ++ codes " .\n")
+    by true = stops_at_blank p.token (codes " .\n") chained.1
+    by false = stops_at_blank p.token (codes ".\n") chained.1
 all_stop (p ∷ q ∷ qs) k last fit chained =
-    let rest = blank_behind Quoted counted_name q qs ++ joined Quoted counted_name qs in
-    let there : GoesNoFurther p.token ((if is_apart Quoted counted_name p q then codes " " else []) ++ (text_of Quoted counted_name q ++ ((blank_behind Quoted counted_name q qs ++ joined Quoted counted_name qs) ++ codes " .\n"))) =
-    stops_before p q ((blank_behind Quoted counted_name q qs ++ joined Quoted counted_name qs) ++ codes " .\n") fit.0 fit.2.0 chained.1 in (
-      subst (λ w. GoesNoFurther p.token ((if is_apart Quoted counted_name p q then codes " " else []) ++ w)) (sym (append_assoc (text_of Quoted counted_name q) (blank_behind Quoted counted_name q qs ++ joined Quoted counted_name qs) (codes " .\n"))) there,
+    let more : Text = codes " .\n" in
+    let rest = own_blank q ++ (blank_behind Quoted counted_name q qs ++ joined Quoted counted_name qs) in
+    let whole : joined Quoted counted_name (q ∷ qs) ++ codes " .\n" ≡ own_blank q ++ (text_of Quoted counted_name q ++ (rest ++ codes " .\n")) =
+    append_assoc (own_blank q) (text_of Quoted counted_name q ++ rest) (codes " .\n") ∙ ap (λ w. own_blank q ++ w) (append_assoc (text_of Quoted counted_name q) rest (codes " .\n")) in
+    let there = stops_before p q (rest ++ codes " .\n") fit.0 fit.2.0 chained.1 (λ e. named_last p.token (chained.0 e)) in (
+      subst (λ w. GoesNoFurther p.token (own_blank p ++ ((if is_apart Quoted counted_name p q then codes " " else []) ++ w))) (sym whole) there,
       all_stop (q ∷ qs) (count_after k p.token) last fit.2 chained.2,
     )
 
 -- ---- the tokens of joined pieces
 
+-- where others stand behind the pieces, those of the pieces stand before them
 abbrev Cut : List Piece → Text → ℕ → ℕ → Type 0
-Cut ps more k last = (before : List ℕ) →
-    AreTokens (before ++ (joined Quoted counted_name ps ++ more)) (length before) (counted k) (tokens ps) (length before + length (joined Quoted counted_name ps)) (counted last)
+Cut ps more k last = (before : List ℕ) (to : ℕ) (v : Variables) (tok : Token) (ts : List Token) →
+    AreTokens (before ++ (joined Quoted counted_name ps ++ more)) (length (before ++ joined Quoted counted_name ps)) (counted last) (tok ∷ ts) to v →
+    AreTokens (before ++ (joined Quoted counted_name ps ++ more)) (length before) (counted k) (tokens ps ++ tok ∷ ts) to v
 
--- behind a piece
-rest_cut : (p : Piece) (ps : List Piece) (more b : List ℕ) (k last : ℕ) → Cut ps more k last →
-    AreTokens (b ++ text_behind p ps more) (length b) (counted k) (tokens ps) (length b + length (blank_behind Quoted counted_name p ps ++ joined Quoted counted_name ps)) (counted last)
-rest_cut p [] more b k last c = c b
-rest_cut p (q ∷ qs) more b k last c = by (is_apart Quoted counted_name p q)
-  where
-    by : (x : Bool) → AreTokens (b ++ ((if x then codes " " else []) ++ (joined Quoted counted_name (q ∷ qs) ++ more))) (length b) (counted k) (tokens (q ∷ qs))
-        (length b + length ((if x then codes " " else []) ++ joined Quoted counted_name (q ∷ qs))) (counted last)
-    by false = c b
-    by true = from_to _ _ _ _ _ refl (omega arith) (behind_blank b (joined Quoted counted_name (q ∷ qs) ++ more) (length (joined Quoted counted_name (q ∷ qs))) (c (b ++ 32 ∷ [])))
+module _ (a b c d e f : List ℕ) where
+  regrouped : a ++ (b ++ (c ++ (d ++ (e ++ f)))) ≡ ((((a ++ b) ++ c) ++ d) ++ e) ++ f
+  regrouped = sym (append_assoc (((a ++ b) ++ c) ++ d) e f ∙ append_assoc ((a ++ b) ++ c) d (e ++ f) ∙ append_assoc (a ++ b) c (d ++ (e ++ f)) ∙ append_assoc a b (c ++ (d ++ (e ++ f))))
+
+  opened : (m : List ℕ) → (b ++ (c ++ (d ++ (e ++ f)))) ++ m ≡ b ++ (c ++ (d ++ (e ++ (f ++ m))))
+  opened m =
+      append_assoc b (c ++ (d ++ (e ++ f))) m
+      ∙ ap (λ x. b ++ x) (append_assoc c (d ++ (e ++ f)) m ∙ ap (λ x. c ++ x) (append_assoc d (e ++ f) m ∙ ap (λ x. d ++ x) (append_assoc e f m)))
+
+module _ (p : Piece) (ps : List Piece) (more before : List ℕ) where
+  abbrev own : Text
+  own = own_blank p
+
+  abbrev text : Text
+  text = text_of Quoted counted_name p
+
+  abbrev blank : Text
+  blank = blank_behind Quoted counted_name p ps
+
+  abbrev rest : Text
+  rest = joined Quoted counted_name ps
+
+  abbrev behind : Text
+  behind = text_behind p ps more
+
+  -- where the other pieces begin
+  abbrev start : Text
+  start = (((before ++ own) ++ text) ++ own) ++ blank
+
+  whole : before ++ (joined Quoted counted_name (p ∷ ps) ++ more) ≡ before ++ (own ++ (text ++ behind))
+  whole = ap (λ x. before ++ x) (opened before own text own blank rest more)
+
+  module _ (k to : ℕ) (v w : Variables) (tok : Token) (ts : List Token) where
+    moved_on : AreTokens (before ++ (joined Quoted counted_name (p ∷ ps) ++ more)) (length (before ++ joined Quoted counted_name (p ∷ ps))) w (tok ∷ ts) to v
+        → AreTokens (start ++ (rest ++ more)) (length (start ++ rest)) w (tok ∷ ts) to v
+    moved_on r =
+        from_to (start ++ (rest ++ more)) _ _ _ _ (ap length (regrouped before own text own blank rest)) refl
+        (on_text _ _ (whole ∙ regrouped before own text own blank (rest ++ more)) r)
+
+    module _ (others : AreTokens (start ++ (rest ++ more)) (length start) (counted (count_after k p.token)) (tokens ps ++ tok ∷ ts) to v) (c : IsCut (before ++ own) behind k p.token) where
+      -- the tokens of the other pieces from behind this piece's text
+      there : AreTokens (((before ++ own) ++ text) ++ behind) (length ((before ++ own) ++ text)) (counted (count_after k p.token)) (tokens ps ++ tok ∷ ts) to v
+      there =
+          over_more ((before ++ own) ++ text) own (blank ++ (rest ++ more)) (tokens ps) tok ts (own_is p)
+          (on_text _ _ (append_assoc ((before ++ own) ++ text) own (blank ++ (rest ++ more)))
+          (over_more (((before ++ own) ++ text) ++ own) blank (rest ++ more) (tokens ps) tok ts (behind_is p ps)
+          (on_text _ _ (append_assoc (((before ++ own) ++ text) ++ own) blank (rest ++ more)) others)))
+
+      place : length ((before ++ own) ++ text) ≡ c.found.span.end
+      place = length-append (before ++ own) text ∙ sym c.stop
+
+      onward : AreTokens ((before ++ own) ++ (text ++ behind)) c.found.span.end (variables_after ((before ++ own) ++ (text ++ behind)) (counted k) c.found) (tokens ps ++ tok ∷ ts) to v
+      onward =
+          subst (λ x. AreTokens ((before ++ own) ++ (text ++ behind)) c.found.span.end x (tokens ps ++ tok ∷ ts) to v) (sym c.variables)
+          (from_to ((before ++ own) ++ (text ++ behind)) _ _ _ _ place refl (on_text _ _ (append_assoc (before ++ own) text behind) there))
+
+      token : AreTokens ((before ++ own) ++ (text ++ behind)) (length (before ++ own)) (counted k) (p.token ∷ (tokens ps ++ tok ∷ ts)) to v
+      token = next (found_there (before ++ own) (text ++ behind) c.no_gap ∙ c.token) c.seen onward
+
+      cut_before : AreTokens (before ++ (joined Quoted counted_name (p ∷ ps) ++ more)) (length before) (counted k) (p.token ∷ (tokens ps ++ tok ∷ ts)) to v
+      cut_before = on_text _ _ (sym whole) (over_blank before own (text ++ behind) (own_is p) (on_text _ _ (append_assoc before own (text ++ behind)) token))
 
 joined_cut : (ps : List Piece) (more : List ℕ) (k last : ℕ) → AllFit k (tokens ps) last → AllStop ps more → Cut ps more k last
-joined_cut [] more k last fit stops before = from_to _ _ _ _ (length before + 0) refl (omega arith) (subst (λ x. AreTokens (before ++ more) (length before) (counted k) [] (length before) (counted x)) fit none)
-joined_cut (p ∷ ps) more k last fit stops before =
-    let behind = text_behind p ps more in
-    let c : IsCut before behind k p.token = token_is_cut before behind k p.token fit.0 fit.1 stops.0 in
-    let text = before ++ (text_of Quoted counted_name p ++ behind) in
-    let rest = joined_cut ps more (count_after k p.token) last fit.2 stops.1 in
-    let r = rest_cut p ps more (before ++ text_of Quoted counted_name p) (count_after k p.token) last rest in
-    let e : (before ++ text_of Quoted counted_name p) ++ behind ≡ text = rw append_assoc refl in
-    let l : length (before ++ text_of Quoted counted_name p) ≡ length before + length (text_of Quoted counted_name p) = length-append before (text_of Quoted counted_name p) in
-    let whole : before ++ (text_of Quoted counted_name p ++ behind) ≡ before ++ (joined Quoted counted_name (p ∷ ps) ++ more) = rw (append_assoc, append_assoc) refl in
-    let to : length (before ++ text_of Quoted counted_name p) + length (blank_behind Quoted counted_name p ps ++ joined Quoted counted_name ps)
-    ≡ length before + length (joined Quoted counted_name (p ∷ ps)) =
-    (let g : length (text_of Quoted counted_name p ++ (blank_behind Quoted counted_name p ps ++ joined Quoted counted_name ps))
-    ≡ length (text_of Quoted counted_name p) + length (blank_behind Quoted counted_name p ps ++ joined Quoted counted_name ps) =
-    length-append (text_of Quoted counted_name p) _ in
-    omega (arith, l, g)) in
-    let onward = from_to text _ c.found.span.end _ (length before + length (joined Quoted counted_name (p ∷ ps))) (l ∙ sym c.stop) to (on_text _ _ e r) in
-    let counts = subst (λ v. AreTokens text c.found.span.end v (tokens ps) (length before + length (joined Quoted counted_name (p ∷ ps))) (counted last)) (sym c.variables) onward in
-    on_text _ _ whole (next (found_there before (text_of Quoted counted_name p ++ behind) c.no_gap ∙ c.token) c.seen counts)
+joined_cut [] more k last fit stops before to v tok ts r =
+    from_to (before ++ more) _ _ _ _ (ap length (append-nil before)) refl (subst (λ n. AreTokens (before ++ more) (length (before ++ [])) (counted n) (tok ∷ ts) to v) (sym fit) r)
+joined_cut (p ∷ ps) more k last fit stops before to v tok ts r =
+    cut_before p ps more before k to v (counted last) tok ts
+    (joined_cut ps more (count_after k p.token) last fit.2 stops.1 (start p ps more before) to v tok ts (moved_on p ps more before k to v (counted last) tok ts r))
+    (token_is_cut (before ++ own_blank p) (text_behind p ps more) k p.token fit.0 fit.1 stops.0)
 
 -- ---- the law
 
@@ -138,9 +203,8 @@ reads_back ops t are bare can =
     let s : tokens (pieces ops u) ≡ written ops u = same ops Alone u in
     let fit : AllFit 0 (tokens (pieces ops u)) n = subst (λ ts. AllFit 0 ts n) (sym s) (numbered_fit ops t can) in
     let stops : AllStop (pieces ops u) (codes " .\n") = all_stop (pieces ops u) 0 n fit (pieces_chained ops u are bare) in
-    let those : AreTokens (w ++ codes " .\n") 0 (counted 0) (tokens (pieces ops u)) (0 + length w) (counted n) = joined_cut (pieces ops u) (codes " .\n") 0 n fit stops [] in
-    let here : AreTokens (w ++ codes " .\n") 0 (counted 0) (written ops u) (length w) (counted n) =
-    from_to _ _ _ _ _ refl (omega arith) (subst (λ ts. AreTokens (w ++ codes " .\n") 0 (counted 0) ts (0 + length w) (counted n)) s those) in
+    let those : AreTokens (w ++ codes " .\n") 0 (counted 0) (tokens (pieces ops u) ++ End ∷ []) (length w + 2) (counted n) =
+    joined_cut (pieces ops u) (codes " .\n") 0 n fit stops [] (length w + 2) (counted n) End [] (end_cut w (counted n)) in
     let reads : Reads ops (w ++ codes " .\n") 0 (Clause u (counted n) (length w + 2)) =
-    clause (behind_each_other _ here (end_cut w (counted n))) (round_trip ops are u) in
+    clause (subst (λ ts. AreTokens (w ++ codes " .\n") 0 (counted 0) (ts ++ End ∷ []) (length w + 2) (counted n)) s those) (round_trip ops are u) in
     subst (λ x. Reads ops (x ++ codes " .\n") 0 (Clause u (counted n) (length x + 2))) (sym (text_is ops t are)) reads

@@ -13,7 +13,7 @@ use Rattle.spec_syntax.specs.Trees.{Tree}
 use Rattle.spec_syntax.specs.Writing.{priority, Alone}
 use Rattle.spec_text.specs.declared.writing.Style.{Style}
 use Rattle.spec_text.specs.Pieces.{Piece, unless, pieces}
-use Rattle.spec_text.specs.Texts.{token_text, text_of, is_apart, run_together, would_bind, blank_behind, joined, seen}
+use Rattle.spec_text.specs.Texts.{token_text, text_of, is_apart, run_together, would_bind, own_blank, blank_behind, joined, seen}
 use Rattle.spec_text.specs.Written.{is_unnamed, counted_name, shown, pieces_within, text_by, text_within}
 use Rattle.spec_text.proofs.Pieces.{other, other_token, other_piece, others, priority_same, pieces_others, unless_others}
 
@@ -41,7 +41,7 @@ module _ (style : Style) (f : ℕ → ℕ) (name : ℕ → Text) where
   apart_same : (p q : Piece) → is_apart style name (other_piece f p) (other_piece f q) ≡ is_apart style there p q
   unfolding is_apart
   apart_same p q =
-      ap₂ (λ (a b : Text). (p.has_blanks || q.has_blanks) || run_together style name a b || (p.is_prefix && would_bind style name a b)) (token_same p.token) (token_same q.token)
+      ap₂ (λ (a b : Text). not (p.has_blanks || q.has_blanks) && (run_together style name a b || (p.is_prefix && would_bind style name a b))) (token_same p.token) (token_same q.token)
 
   blank_same : (p : Piece) (ps : List Piece) → blank_behind style name (other_piece f p) (others f ps) ≡ blank_behind style there p ps
   blank_same p [] = refl
@@ -50,8 +50,8 @@ module _ (style : Style) (f : ℕ → ℕ) (name : ℕ → Text) where
   joined_same : (ps : List Piece) → joined style name (others f ps) ≡ joined style there ps
   joined_same [] = refl
   joined_same (p ∷ ps) =
-      ap₂ (λ (a b : Text). a ++ (b ++ joined style name (others f ps))) (token_same p.token) (blank_same p ps)
-      ∙ ap (λ (r : Text). text_of style there p ++ (blank_behind style there p ps ++ r)) (joined_same ps)
+      ap₂ (λ (a b : Text). own_blank p ++ (a ++ (own_blank p ++ (b ++ joined style name (others f ps))))) (token_same p.token) (blank_same p ps)
+      ∙ ap (λ (r : Text). own_blank p ++ (text_of style there p ++ (own_blank p ++ (blank_behind style there p ps ++ r)))) (joined_same ps)
 
   seen_same : (ps : List Piece) → seen style name (others f ps) ≡ others f (seen style there ps)
   seen_same [] = refl

@@ -14,7 +14,7 @@ use Rattle.spec_syntax.specs.TextTokens.{variables_after, seen}
 use Rattle.spec_syntax.specs.Writing.{is_negative, needs_quotes}
 use Rattle.spec_text.specs.declared.writing.Style.TheVariants.{Quoted}
 use Rattle.spec_text.specs.Pieces.{Piece}
-use Rattle.spec_text.specs.Texts.{token_text, blank_behind, joined}
+use Rattle.spec_text.specs.Texts.{token_text, own_blank, blank_behind, joined}
 use Rattle.spec_text.specs.Written.{counted_name}
 use Rattle.spec_text.specs.ReadingBack.{FitsNumber, counted}
 use Rattle.spec_text.proofs.WritingNames.{StopsName}
@@ -71,9 +71,9 @@ pub record IsCut (before more : List ℕ) (k : ℕ) (tok : Token) : Type 0 where
   pub seen : seen (before ++ (token_text Quoted counted_name tok ++ more)) (counted k) found ≡ Some tok
   pub variables : variables_after (before ++ (token_text Quoted counted_name tok ++ more)) (counted k) found ≡ counted (count_after k tok)
 
--- what follows a piece: the blank before the others, then these
+-- what follows a piece: its own blank, the one before the others, then these
 abbrev pub text_behind : Piece → List Piece → Text → Text
-text_behind p ps more = blank_behind Quoted counted_name p ps ++ (joined Quoted counted_name ps ++ more)
+text_behind p ps more = own_blank p ++ (blank_behind Quoted counted_name p ps ++ (joined Quoted counted_name ps ++ more))
 
 -- each token of the pieces goes no further than its text, where `more` follows the last
 abbrev pub AllStop : List Piece → Text → Type 0

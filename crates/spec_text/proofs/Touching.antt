@@ -1,5 +1,5 @@
 -- Neighbouring pieces of a term stop each other's tokens, with a blank between them or without.
-use Rattle.std.proofs.Common.{◌≡◌, Bool, true, false, ◌&&◌, ◌⊎◌, inl, inr, ◌<◌, [], ◌∷◌, ◌++◌, codes, refl, sym, ap, subst, ◌∙◌, arith}
+use Rattle.std.proofs.Common.{◌≡◌, Bool, true, false, not, ◌&&◌, ◌||◌, ◌⊎◌, inl, inr, ◌<◌, [], ◌∷◌, ◌++◌, codes, refl, sym, ap, subst, ◌∙◌, arith}
 use Rattle.std.specs.Prelude.{⊤, ◌==◌, if◌then◌else◌, ◌≢◌, bytes_eq}
 use Rattle.std.specs.Cmp.Lexicographic.{bytes_decides}
 use Rattle.std.specs.Char.{is_ascii_digit}
@@ -18,7 +18,7 @@ use Rattle.spec_syntax.specs.Writing.{is_negative, needs_quotes}
 use Rattle.spec_text.specs.declared.writing.Style.TheVariants.{Quoted}
 use Rattle.spec_text.specs.Numbers.{number_text}
 use Rattle.spec_text.specs.Pieces.{Piece}
-use Rattle.spec_text.specs.Texts.{last_of, both_pass, ends_name, name_text, token_text, text_of, run_together, would_bind, is_apart}
+use Rattle.spec_text.specs.Texts.{last_of, both_pass, ends_name, name_text, token_text, text_of, own_blank, run_together, would_bind, is_apart}
 use Rattle.spec_text.specs.Written.{counted_name}
 use Rattle.spec_text.proofs.WritingNames.{StopsName}
 use Rattle.spec_text.proofs.Marks.{bare_text}
@@ -194,21 +194,20 @@ last_by End p q e h o n = tt
 
 -- ---- no blank between
 
--- what it says that two pieces are not apart
+-- what it says that two pieces without blanks of their own are not apart
 pub record NotApart (p q : Piece) : Type 0 where
   pub no_blanks : p.has_blanks ≡ false
   pub symbols : both_pass is_symbol is_symbol (text_of Quoted counted_name p) (text_of Quoted counted_name q) ≡ false
   pub words : both_pass ends_name continues_name (text_of Quoted counted_name p) (text_of Quoted counted_name q) ≡ false
   pub unbound : p.is_prefix ≡ true → would_bind Quoted counted_name (text_of Quoted counted_name p) (text_of Quoted counted_name q) ≡ false
 
-not_apart : (p q : Piece) → is_apart Quoted counted_name p q ≡ false → NotApart p q
+not_apart : (p q : Piece) → p.has_blanks ≡ false → q.has_blanks ≡ false → is_apart Quoted counted_name p q ≡ false → NotApart p q
 unfolding is_apart
-not_apart p q e =
-    let a = neither_is _ _ e in
-    let b = neither_is _ _ a.0 in
-    let c = neither_is _ _ b.0 in
-    let d = neither_is _ _ b.1 in
-    record { no_blanks = c.0; symbols = d.0; words = d.1; unbound = λ prefix. right_false p.is_prefix _ prefix a.1 }
+not_apart p q left right e =
+    let bare : not (p.has_blanks || q.has_blanks) ≡ true = rw (left, right) refl in
+    let a = neither_is _ _ (right_false (not (p.has_blanks || q.has_blanks)) _ bare e) in
+    let d = neither_is _ _ a.0 in
+    record { no_blanks = left; symbols = d.0; words = d.1; unbound = λ prefix. right_false p.is_prefix _ prefix a.1 }
 
 module _ (p q : Piece) (wq : IsWritable q.token) (any : Text) (near : NotApart p q) where
   abbrev behind : Text
@@ -359,12 +358,20 @@ minus_touches p q w e h =
 -- ---- neighbours
 
 -- a piece goes no further than its text before one that it may stand before
-pub stops_before : (p q : Piece) (any : Text) → IsWritable p.token → IsWritable q.token → Precedes p.token p q →
-    GoesNoFurther p.token ((if is_apart Quoted counted_name p q then codes " " else []) ++ (text_of Quoted counted_name q ++ any))
-stops_before p q any wp wq h = by (is_apart Quoted counted_name p q) refl
+pub stops_before : (p q : Piece) (any : Text) → IsWritable p.token → IsWritable q.token → Precedes p.token p q → (p.has_blanks ≡ true → IsLast p.token) →
+    GoesNoFurther p.token (own_blank p ++ ((if is_apart Quoted counted_name p q then codes " " else []) ++ (own_blank q ++ (text_of Quoted counted_name q ++ any))))
+stops_before p q any wp wq h named = by p.has_blanks q.has_blanks (is_apart Quoted counted_name p q) refl refl refl
   where
-    by : (x : Bool) → is_apart Quoted counted_name p q ≡ x → GoesNoFurther p.token ((if x then codes " " else []) ++ (text_of Quoted counted_name q ++ any))
-    by true e =
+    -- the other piece has blanks
+    beside : q.has_blanks ≡ true → IsLast p.token
+    beside e = last_by p.token p q refl h (λ o. false≢true (sym o.1.no_blanks_behind ∙ e)) (λ m n. false≢true (sym n.1.no_blanks_behind ∙ e))
+
+    by : (a b x : Bool) → p.has_blanks ≡ a → q.has_blanks ≡ b → is_apart Quoted counted_name p q ≡ x
+        → GoesNoFurther p.token ((if a then codes " " else []) ++ ((if x then codes " " else []) ++ ((if b then codes " " else []) ++ (text_of Quoted counted_name q ++ any))))
+    by true b x e f g = stops_at_blank p.token ((if x then codes " " else []) ++ ((if b then codes " " else []) ++ (text_of Quoted counted_name q ++ any))) (named e)
+    by false true true e f g = stops_at_blank p.token (32 ∷ (text_of Quoted counted_name q ++ any)) (beside f)
+    by false true false e f g = stops_at_blank p.token (text_of Quoted counted_name q ++ any) (beside f)
+    by false false true e f g =
         stops_at_blank p.token (text_of Quoted counted_name q ++ any)
-        (last_by p.token p q refl h (λ o. false≢true (sym (open_touches p q o) ∙ e)) (λ m n. false≢true (sym (minus_touches p q wq m n) ∙ e)))
-    by false e = stops_touching p.token p q any refl wp wq h (not_apart p q e)
+        (last_by p.token p q refl h (λ o. false≢true (sym (open_touches p q o) ∙ g)) (λ m n. false≢true (sym (minus_touches p q wq m n) ∙ g)))
+    by false false false e f g = stops_touching p.token p q any refl wp wq h (not_apart p q e f g)

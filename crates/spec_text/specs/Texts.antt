@@ -57,6 +57,10 @@ both_pass left right a b = passes left (last_of (chars a)) && passes right (firs
 abbrev pub ends_name : ℕ → Bool
 ends_name c = starts_name c || continues_name c
 
+-- the blank on each side of a piece that has one there, whatever its neighbours are
+abbrev pub own_blank : Piece → Text
+own_blank p = if p.has_blanks then codes " " else []
+
 module _ (style : Style) (name : ℕ → Text) where
   -- a token with variables by these names; of no term a text in double quotes is written
   abbrev pub token_text : Token → Text
@@ -88,19 +92,19 @@ module _ (style : Style) (name : ℕ → Text) where
   abbrev pub would_bind : Text → Text → Bool
   would_bind a b = begins_with 40 b || (bytes_eq a (codes "-") && begins is_ascii_digit b)
 
-  -- a blank stands between these neighbours
+  -- a blank stands between these neighbours, where neither has its own
   unfoldable pub is_apart : Piece → Piece → Bool
-  is_apart p q = (p.has_blanks || q.has_blanks) || run_together (text_of p) (text_of q) || (p.is_prefix && would_bind (text_of p) (text_of q))
+  is_apart p q = not (p.has_blanks || q.has_blanks) && (run_together (text_of p) (text_of q) || (p.is_prefix && would_bind (text_of p) (text_of q)))
 
-  -- what stands between a piece and those behind it
+  -- what stands between a piece and those behind it, with their own blanks
   abbrev pub blank_behind : Piece → List Piece → Text
   blank_behind p [] = []
   blank_behind p (q ∷ qs) = if is_apart p q then codes " " else []
 
-  -- the pieces with the blanks between them
+  -- the pieces with their own blanks and those between them
   abbrev pub joined : List Piece → Text
   joined [] = []
-  joined (p ∷ ps) = text_of p ++ (blank_behind p ps ++ joined ps)
+  joined (p ∷ ps) = own_blank p ++ (text_of p ++ (own_blank p ++ (blank_behind p ps ++ joined ps)))
 
   -- Without those that leave nothing, as the name of no characters does where names are written as they are. So the characters
   -- that touch are those that are seen to.

@@ -82,4 +82,8 @@ pub fn terms_as_written()
     ensures fraction { writeq standard (Number (neg_ℚ (ratio (pos 1) 2))) ≡ codes "-1r2" }
     ensures variables { writeq standard (Compound (codes "f") (more (Var 9) (more (Var 4) (one (Var 9))))) ≡ codes "f(_1,_2,_1)" }
     ensures nothing_between { write standard (binary (codes "-") (unary (codes "-") (Name (codes ""))) (Name (codes "a"))) ≡ codes "- -a" }
+    ensures nothing_before { write standard (binary (codes "mod") (Name (codes "")) (Name (codes "b"))) ≡ codes " mod b" }
+    ensures nothing_behind { write standard (binary (codes "mod") (Name (codes "a")) (Name (codes ""))) ≡ codes "a mod " }
+    ensures nothing_between_letters { write standard (binary (codes "mod") (binary (codes "mod") (Name (codes "a")) (Name (codes ""))) (Name (codes "b")))
+        ≡ codes "a mod  mod b" }
 {}

@@ -29,4 +29,7 @@ returns c = record {
   fraction = refl;
   variables = refl;
   nothing_between = refl;
+  nothing_before = refl;
+  nothing_behind = refl;
+  nothing_between_letters = refl;
 }
