@@ -32,16 +32,14 @@ use Rattle.cq_resolve.specs.StoredValue.{ClauseValue}
 use Rattle.cq_term.specs.Meaning.{at}
 use Rattle.cq_term.specs.declared.names.Pred.{Pred}
 use Rattle.cq_settle.specs.Contents.{Contents}
-use Rattle.spec_engine.specs.Cells.{Clauses, Stack, Value}
+use Rattle.spec_engine.specs.Cells.{Stack, Value}
 use Rattle.spec_engine.specs.Coming.{after, Comes}
-use Rattle.spec_engine.specs.Standing.{engine, AreWaiting}
-use Rattle.cq_branch.specs.Worlds.{IsBranch, term_in, stack, left_at}
+use Rattle.spec_engine.specs.Standing.{engine}
+use Rattle.cq_branch.specs.Worlds.{IsBranch, term_in, stack}
 use Rattle.cq_branch.specs.declared.alternatives.Alternatives.{Alternatives}
 use Rattle.cq_branch.specs.declared.alternatives.Alternatives.TheVariants as alternatives
 use Rattle.cq_branch.proofs.Added.{reads_tree}
-use Rattle.cq_calls.specs.Calling.{IsCalledAt, CallBecomes, WouldStand, WouldCome}
-use Rattle.cq_calls.proofs.Left.{numbers_left}
-use Rattle.cq_calls.proofs.Waiting.{one_more_open}
+use Rattle.cq_calls.specs.Calling.{IsCalledAt, CallBecomes, WouldStand, WouldCome, numbers_left}
 
 -- ---- the procedure
 
@@ -112,39 +110,31 @@ module _ (texts : List Text) (v : Program) (saved : List (Value Contents)) (choi
       (λ e. is_left v walk left (tried ∙ none_matching (key_at (λ (d : ClauseValue). key_of d.head) v.contents) (key_of (at now.0.heap.terms id)) all (none_mapped clause all e)))
       clauses_are
 
-  -- ---- the clauses that a walk leaves of it
+  -- ---- some of its clauses
 
-  module _ (walk : Walk) (tried : numbers_left v walk ≡ some) where
-    stack_is : stack texts v (saved ++ now ∷ []) (alternatives.Clauses id walk rest ∷ choices) ≡ (now, Clauses id (map clause some) rest) ∷ stack texts v saved choices
-    stack_is =
-        ap (map (left_at texts v)) (one_more_open saved choices now (alternatives.Clauses id walk rest))
-        ∙ ap (λ (ns : List ℕ). (now, Clauses id (map clause ns) rest) ∷ stack texts v saved choices) tried
-
-    waits : AreWaiting (IsBranch texts) (term_in texts) ((now, Clauses id (map clause some) rest) ∷ stack texts v saved choices) (map (clause_child p g) (map clause some) ++ behind)
-    waits = (map (clause_child p g) (map clause some), behind, refl, (p, g, refl, c.reads.0, c.place.0), c.place.1)
-
+  module _ (fewer : List ℕ) where
     -- it would stand for a search with their branches in front
-    would_stand : (s : Search) → s.database ≡ p.database → s.branches ≡ map (clause_child p g) (map clause some) ++ behind
-        → WouldStand texts v saved choices now id walk rest p.database s.selected s
+    would_stand : (s : Search) → s.database ≡ p.database → s.branches ≡ map (clause_child p g) (map clause fewer) ++ behind
+        → WouldStand texts v saved choices now id fewer rest p.database s.selected s
     would_stand s d b = record {
       database = d;
       selected = refl;
       first = [];
-      behind = map (clause_child p g) (map clause some) ++ behind;
+      behind = map (clause_child p g) (map clause fewer) ++ behind;
       branches = b;
       current = refl;
-      waiting = subst (λ st. AreWaiting (IsBranch texts) (term_in texts) st (map (clause_child p g) (map clause some) ++ behind)) (sym stack_is) waits;
+      waiting = (map (clause_child p g) (map clause fewer), behind, refl, (p, g, refl, c.reads.0, c.place.0), c.place.1);
     }
 
     module _ (row : user_row p (indicator_of g) ≡ Calls (map clause all))
-        (selects : IsSelection p (named (text_of texts) (at now.0.heap.terms id)) (map clause all) (map clause some)) where
+        (selects : IsSelection p (named (text_of texts) (at now.0.heap.terms id)) (map clause all) (map clause fewer)) where
       pub becomes : (more : List (Value Contents)) (left : List Alternatives) (later : Value Contents) (current : Option ℕ)
-          → WouldCome texts v saved choices now id walk rest more left later current → CallBecomes texts (stack texts v more left) later current p behind g
+          → WouldCome texts v saved choices now id fewer rest more left later current → CallBecomes texts (stack texts v more left) later current p behind g
       becomes more left later current comes = record {
         all = map clause all;
-        some = map clause some;
+        some = map clause fewer;
         row = row;
-        selection = subst (λ (t : Tree). IsSelection p t (map clause all) (map clause some)) (reads_tree texts now.0 p.state id g c.reads) selects;
+        selection = subst (λ (t : Tree). IsSelection p t (map clause all) (map clause fewer)) (reads_tree texts now.0 p.state id g c.reads) selects;
         comes = λ steps s d b. comes steps p.database s.selected s (would_stand s d b);
       }
 

@@ -7,7 +7,7 @@ use Rattle.std.proofs.lemmas.Option.{get_or_from_slice_get}
 use Rattle.std.proofs.lemmas.Slice.Zip.{length-zip}
 use Rattle.spec_numbers.specs.Texts.{Text}
 use Rattle.cq_clauses.specs.Selected.{key_at}
-use Rattle.cq_clauses.specs.Walks.{HasNoneLeft, left}
+use Rattle.cq_clauses.specs.Walks.{HasNoneLeft}
 use Rattle.cq_clauses.specs.declared.walk.Walk.{Walk}
 use Rattle.cq_control.specs.Open.{AreMarked, last, open_choices}
 use Rattle.cq_resolve.specs.Database.{Program, as_clause, as_parts}
@@ -23,6 +23,7 @@ use Rattle.spec_engine.proofs.Kept.{last-older, last-all}
 use Rattle.cq_branch.specs.Choices.{AreOpen, CanBeTried}
 use Rattle.cq_branch.specs.Worlds.{saved_values}
 use Rattle.cq_branch.specs.declared.alternatives.Alternatives.{Alternatives}
+use Rattle.cq_calls.specs.Calling.{numbers_left}
 use Rattle.cq_calls.specs.Trying.{IsGone, KeepsOthers, Leaves, gone, stays}
 
 -- the choices below the newest are those that are older than it
@@ -31,10 +32,6 @@ older-all x xs = last-older x xs (length xs) (omega arith) ∙ last-all xs (leng
 
 abbrev pub Opened : Type 0
 Opened = List (Value Contents × Alternatives)
-
--- the clauses that a walk leaves, by number
-abbrev pub numbers_left : Program → Walk → List ℕ
-numbers_left v walk = left (λ (c : ClauseValue). key_of c.head) walk v
 
 -- what a clause holds
 pub content_is : (texts : List Text) (v : Program) (n : ℕ) (kept : ClauseValue) → slice_get v.contents n ≡ Some kept → (as_clause texts v.contents n).parts ≡ as_parts texts kept

@@ -1,3 +1,5 @@
+mod Apart
+mod Narrowing
 mod Turns
 pub mod Left
 mod Newest

@@ -29,7 +29,8 @@ use Rattle.cq_branch.specs.declared.begin.beginning.Begun.{Begun}
 use Rattle.cq_branch.specs.Begun.{goes_to}
 use Rattle.cq_branch.specs.BeginCalls.{ClauseComes, OfClause}
 use Rattle.cq_branch.specs.Stops.{FaultStops, waiting_in}
-use Rattle.cq_calls.proofs.Left.{Opened, AreLeft, numbers_left, content_is, none_left}
+use Rattle.cq_calls.specs.Calling.{numbers_left}
+use Rattle.cq_calls.proofs.Left.{Opened, AreLeft, content_is, none_left}
 use Rattle.cq_calls.proofs.Turns.{ComesBackTo, ready, goal_there, rest_there, comes_with_others, comes_without, refused, taken, came_past}
 
 -- ---- the searches for which the engine stands

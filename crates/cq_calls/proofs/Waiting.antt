@@ -6,6 +6,7 @@ use Rattle.std.proofs.lemmas.List.{length-map, reverse-append}
 use Rattle.spec_numbers.specs.Texts.{Text}
 use Rattle.spec_search.specs.Database.{Database}
 use Rattle.spec_search.specs.Search.{Search}
+use Rattle.cq_term.specs.Meaning.{at}
 use Rattle.cq_clauses.specs.Walks.{IsWalk}
 use Rattle.cq_clauses.specs.declared.walk.Walk.{Walk}
 use Rattle.cq_control.specs.Items.{ContinuationsValue, items_at}
@@ -29,10 +30,10 @@ use Rattle.cq_branch.specs.declared.begin.beginning.Begun.{Begun}
 use Rattle.cq_branch.specs.Begun.{goes_to}
 use Rattle.cq_branch.specs.BeginCalls.{ClauseComes}
 use Rattle.cq_branch.specs.Stops.{ComesOn}
-use Rattle.cq_calls.specs.Calling.{LeavesOnly, WouldStand, WouldCome}
-use Rattle.cq_calls.proofs.Left.{content_is, length-opened, numbers_left}
-use Rattle.cq_calls.proofs.Newest.{arrives_past}
-use Rattle.cq_calls.proofs.Turns.{ComesBackTo, comes_without}
+use Rattle.cq_calls.specs.Calling.{WalkComes, WouldStand, numbers_left}
+use Rattle.cq_calls.specs.Matching.{Narrows, all}
+use Rattle.cq_calls.proofs.Left.{content_is, length-opened}
+use Rattle.cq_calls.proofs.Turns.{came_past, comes_without}
 
 -- one more choice, over a mark of this world
 pub one_more_open : (saved : List (Value Contents)) (choices : List Alternatives) (now : Value Contents) (c : Alternatives)
@@ -71,12 +72,9 @@ module _ (texts : List Text) (v : Program) (saved : List (Value Contents)) (choi
   abbrev one_more : Stack Contents
   one_more = (now, Clauses t (clauses_left texts v walk) k) ∷ older
 
-  stack_is : stack texts v (saved ++ now ∷ []) (alternatives.Clauses t walk k ∷ choices) ≡ one_more
-  stack_is = ap (map (left_at texts v)) (one_more_open saved choices now (alternatives.Clauses t walk k))
-
-  module _ (db : Database) (n : ℕ) (s : Search) (j : WouldStand texts v saved choices now t walk k db n s) where
+  module _ (db : Database) (n : ℕ) (s : Search) (j : WouldStand texts v saved choices now t (numbers_left v walk) k db n s) where
     waiting : AreWaiting (IsBranch texts) (term_in texts) one_more j.behind
-    waiting = subst (λ st. AreWaiting (IsBranch texts) (term_in texts) st j.behind) stack_is j.waiting
+    waiting = j.waiting
 
     -- so it is in a world in which more was built
     grown_waiting : (grown : Value Contents) → Grown texts now grown → AreWaiting (IsBranch texts) (term_in texts) ((grown, Clauses t (clauses_left texts v walk) k) ∷ older) j.behind
@@ -112,40 +110,48 @@ module _ (texts : List Text) (v : Program) (saved : List (Value Contents)) (choi
 
   -- once they wait it stands for the same
   pub waits_come : (grown : Value Contents) → Grown texts now grown → (more : List (Value Contents)) (after : List Alternatives) (later : Value Contents)
-      → LeavesAlso saved choices grown (alternatives.Clauses t walk k) more after → WouldCome texts v saved choices now t walk k more after later None
-  waits_come grown g more after later l steps db n s j = comes_at_once (IsBranch texts) (term_in texts) steps _ s (grown_stands db n s j grown g more after later l)
+      → LeavesAlso saved choices grown (alternatives.Clauses t walk k) more after → WalkComes texts v saved choices now t walk k more after later None
+  waits_come grown g more after later l = record {
+    some = numbers_left v walk;
+    narrows = all;
+    comes = λ steps db n s j. comes_at_once (IsBranch texts) (term_in texts) steps _ s (grown_stands db n s j grown g more after later l);
+  }
 
   -- as they are tried where they wait, it comes to the same
   pub waited_come : (w : World) (lists : ContinuationsValue Cell) (after : List Alternatives)
       → LeavesAlso saved choices now (alternatives.Clauses t walk k) (saved_values w lists.saved) after
       → (new : World) (more : ContinuationsValue Cell) (left : List Alternatives) (current : Option ℕ) → ComesOn texts v w lists after new more left current
-      → WouldCome texts v saved choices now t walk k (saved_values new more.saved) left (value new more.now) current
-  waited_come w lists after l new more left current g steps db n s j =
-      g steps db n s (grown_stands db n s j now (same_grown texts now.0 now.0 now.1 now.1 refl (keeps_all now.1)) (saved_values w lists.saved) after (value w lists.now) l)
+      → WalkComes texts v saved choices now t walk k (saved_values new more.saved) left (value new more.now) current
+  waited_come w lists after l new more left current g = record {
+    some = numbers_left v walk;
+    narrows = all;
+    comes = λ steps db n s j.
+        g steps db n s (grown_stands db n s j now (same_grown texts now.0 now.0 now.1 now.1 refl (keeps_all now.1)) (saved_values w lists.saved) after (value w lists.now) l);
+  }
 
   -- there is none
-  pub none_comes : numbers_left v walk ≡ [] → WouldCome texts v saved choices now t walk k saved choices now None
-  none_comes none steps db n s j =
-      arrives_past texts v (saved ++ now ∷ []) (alternatives.Clauses t walk k ∷ choices) now now t k walk (open_choices saved choices)
-      (one_more_open saved choices now (alternatives.Clauses t walk k)) db n s saved choices now steps none refl j
+  pub none_comes : numbers_left v walk ≡ [] → WalkComes texts v saved choices now t walk k saved choices now None
+  none_comes none = record {
+    some = [];
+    narrows = subst (λ ns. Narrows v (at now.0.heap.terms t) ns []) (sym none) all;
+    comes = λ steps db n s j. comes_at_once (IsBranch texts) (term_in texts) steps _ s (came_past texts db n s older now now t k j now);
+  }
 
   -- ---- its only clause
 
-  module _ (n : ℕ) (only : LeavesOnly v walk n) (marked : AreMarked saved choices) where
-    back_to : (db : Database) (m : ℕ) (s : Search) → WouldStand texts v saved choices now t walk k db m s
-        → ComesBackTo texts db m s older now now t k (as_clause texts v.contents n ∷ [])
-    back_to db m s j =
-        subst (λ st. IsStanding (IsBranch texts) (term_in texts) (engine db m st now None) s)
-        (stack_is ∙ ap (λ (ns : List ℕ). (now, Clauses t (map (as_clause texts v.contents) ns) k) ∷ older) only) j
-
+  module _ (n : ℕ) (only : Narrows v (at now.0.heap.terms t) (numbers_left v walk) (n ∷ [])) (marked : AreMarked saved choices) where
     high_stack : (height : ℕ) → height ≡ length choices → height ≡ length older
     high_stack height high = high ∙ sym (length-map (open_choices saved choices) (left_at texts v) ∙ length-opened saved choices marked)
 
     -- it begins with no choice
     pub only_comes : (kept : ClauseValue) → slice_get v.contents n ≡ Some kept → (height : ℕ) → height ≡ length choices → (later : Value Contents) (b : Begun)
         → ClauseComes texts now later t height k kept b → (more : List (Value Contents)) → more ≡ saved
-        → WouldCome texts v saved choices now t walk k more choices later (goes_to b)
-    only_comes kept got height high later b comes more same steps db m s j =
-        subst (λ (l : List (Value Contents)). Comes (IsBranch texts) (term_in texts) steps (engine db m (stack texts v l choices) later (goes_to b)) s) (sym same)
-        (comes_without texts db m s older now now t k (as_clause texts v.contents n) [] (back_to db m s j) now (same_grown texts now.0 now.0 now.1 now.1 refl (keeps_all now.1)) height (high_stack height high) kept
-        (content_is texts v n kept got) later b comes steps refl)
+        → WalkComes texts v saved choices now t walk k more choices later (goes_to b)
+    only_comes kept got height high later b comes more same = record {
+      some = n ∷ [];
+      narrows = only;
+      comes = λ steps db m s j.
+          subst (λ (l : List (Value Contents)). Comes (IsBranch texts) (term_in texts) steps (engine db m (stack texts v l choices) later (goes_to b)) s) (sym same)
+          (comes_without texts db m s older now now t k (as_clause texts v.contents n) [] j now (same_grown texts now.0 now.0 now.1 now.1 refl (keeps_all now.1)) height (high_stack height high) kept
+          (content_is texts v n kept got) later b comes steps refl);
+    }

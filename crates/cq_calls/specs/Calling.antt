@@ -11,11 +11,12 @@ use Rattle.spec_search.specs.Database.{Clause, Database}
 use Rattle.spec_search.specs.Replies.{Place, Raises, Calls}
 use Rattle.spec_search.specs.Search.{Search}
 use Rattle.spec_search.specs.Steps.{IsSelection}
+use Rattle.cq_term.specs.Meaning.{at}
 use Rattle.cq_term.specs.Texts.{AreDifferent}
 use Rattle.cq_clauses.specs.Walks.{left}
 use Rattle.cq_clauses.specs.declared.walk.Walk.{Walk}
 use Rattle.cq_control.specs.Items.{ContinuationsValue}
-use Rattle.cq_resolve.specs.Database.{Program, IsProgram, as_database, as_indicator}
+use Rattle.cq_resolve.specs.Database.{Program, IsProgram, as_clause, as_database, as_indicator}
 use Rattle.cq_resolve.specs.Keys.{key_of}
 use Rattle.cq_resolve.specs.StoredValue.{ClauseValue}
 use Rattle.cq_term.specs.declared.names.Pred.{Pred}
@@ -23,13 +24,13 @@ use Rattle.cq_settle.specs.Contents.{Contents}
 use Rattle.cq_settle.specs.Worlds.{now_of}
 use Rattle.cq_settle.specs.declared.world.World.{World}
 use Rattle.spec_engine.specs.declared.machine.cell.Cell.{Cell}
-use Rattle.spec_engine.specs.Cells.{Value, Stack}
+use Rattle.spec_engine.specs.Cells.{Clauses, Value, Stack}
 use Rattle.spec_engine.specs.Coming.{Comes}
-use Rattle.spec_engine.specs.Standing.{engine}
+use Rattle.spec_engine.specs.Standing.{engine, IsStanding}
 use Rattle.cq_branch.specs.Lists.{KeepsLists}
-use Rattle.cq_branch.specs.Worlds.{IsBranch, term_in, saved_values, ReadsAs, Placed, Stands, Arrives}
+use Rattle.cq_branch.specs.Worlds.{IsBranch, term_in, saved_values, stack, ReadsAs, Placed, Arrives}
 use Rattle.cq_branch.specs.declared.alternatives.Alternatives.{Alternatives}
-use Rattle.cq_branch.specs.declared.alternatives.Alternatives.TheVariants as alternatives
+use Rattle.cq_calls.specs.Matching.{Narrows}
 use Rattle.cq_calls.specs.declared.calling.Called.{Called}
 use Rattle.cq_calls.specs.declared.calling.Called.TheVariants.{Goes, Back, Unknown}
 
@@ -77,21 +78,28 @@ pub record IsStill (old new : World) (earlier later : ContinuationsValue Cell) (
 
 -- ---- the clauses of a call
 
--- the walk leaves this clause alone
-abbrev pub LeavesOnly : Program → Walk → ℕ → Type 0
-LeavesOnly v walk n = left (λ (c : ClauseValue). key_of c.head) walk v ≡ n ∷ []
+-- the clauses that a walk leaves, by number
+abbrev pub numbers_left : Program → Walk → List ℕ
+numbers_left v walk = left (λ (c : ClauseValue). key_of c.head) walk v
 
 -- the walk leaves this clause first, and behind it those of another
 abbrev pub LeavesFirst : Program → Walk → ℕ → Walk → Type 0
-LeavesFirst v walk n behind =
-    left (λ (c : ClauseValue). key_of c.head) walk v ≡ n ∷ left (λ (c : ClauseValue). key_of c.head) behind v
+LeavesFirst v walk n behind = numbers_left v walk ≡ n ∷ numbers_left v behind
 
 -- The engine would stand for the search where it came back to one more choice, of these clauses of a call in this world.
-abbrev pub WouldStand : List Text → Program → List (Value Contents) → List Alternatives → Value Contents → ℕ → Walk → ℕ → Database → ℕ → Search → Type 0
-WouldStand texts v saved choices now id walk rest db n s = Stands texts v db n (saved ++ now ∷ []) (alternatives.Clauses id walk rest ∷ choices) now None s
+abbrev pub WouldStand : List Text → Program → List (Value Contents) → List Alternatives → Value Contents → ℕ → List ℕ → ℕ → Database → ℕ → Search → Type 0
+WouldStand texts v saved choices now id ns rest db n s =
+    IsStanding (IsBranch texts) (term_in texts) (engine db n ((now, Clauses id (map (as_clause texts v.contents) ns) rest) ∷ stack texts v saved choices) now None) s
 
 -- each such search comes quietly to one for which an engine stands that has these choices and goes on with the continuation
-abbrev pub WouldCome : List Text → Program → List (Value Contents) → List Alternatives → Value Contents → ℕ → Walk → ℕ
+abbrev pub WouldCome : List Text → Program → List (Value Contents) → List Alternatives → Value Contents → ℕ → List ℕ → ℕ
     → List (Value Contents) → List Alternatives → Value Contents → Option ℕ → Type 0
-WouldCome texts v saved choices now id walk rest more after later current = (steps : ℕ) (db : Database) (n : ℕ) (s : Search)
-    → WouldStand texts v saved choices now id walk rest db n s → Arrives steps texts v db n more after later current s
+WouldCome texts v saved choices now id ns rest more after later current = (steps : ℕ) (db : Database) (n : ℕ) (s : Search)
+    → WouldStand texts v saved choices now id ns rest db n s → Arrives steps texts v db n more after later current s
+
+-- so it is with some of the clauses that a walk leaves, of which only those are left out whose head nothing makes equal to the goal
+pub record WalkComes (texts : List Text) (v : Program) (saved : List (Value Contents)) (choices : List Alternatives) (now : Value Contents) (id : ℕ) (walk : Walk) (rest : ℕ)
+    (more : List (Value Contents)) (after : List Alternatives) (later : Value Contents) (current : Option ℕ) : Type 0 where
+  pub some : List ℕ
+  pub narrows : Narrows v (at now.0.heap.terms id) (numbers_left v walk) some
+  pub comes : WouldCome texts v saved choices now id some rest more after later current

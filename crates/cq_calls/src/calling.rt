@@ -1,10 +1,11 @@
 // How a call of a user predicate begins.
 
-ghost use Rattle.std.specs.Prelude.{◌≡◌, ◌<◌, ◌∷◌, List, length, Ok, IfOk, IfSome, IfNone, OnOk, OnErr};
+ghost use Rattle.std.specs.Prelude.{◌≡◌, ◌<◌, [], ◌∷◌, List, length, Ok, IfOk, IfSome, IfNone, OnOk, OnErr};
 ghost use Rattle.spec_numbers.specs.Texts.{Text};
 ghost use Rattle.spec_syntax.specs.Trees.{Tree};
 ghost use Rattle.spec_branch.specs.Branch.{Branch};
 ghost use Rattle.spec_search.specs.Replies.{Place};
+ghost use Rattle.cq_term.specs.Meaning.{at};
 ghost use Rattle.cq_term.specs.Texts.{AreDifferent};
 ghost use Rattle.cq_clauses.specs.Walks.{IsWalk};
 ghost use Rattle.cq_control.specs.Open.{AreMarked};
@@ -14,8 +15,10 @@ ghost use Rattle.cq_settle.specs.Worlds.{now_of};
 ghost use Rattle.cq_branch.specs.Choices.{AreOpen, LeavesAlso};
 ghost use Rattle.cq_branch.specs.Worlds.{value, saved_values, stack};
 ghost use Rattle.cq_branch.specs.declared.alternatives.Alternatives.TheVariants as alternatives;
-ghost use Rattle.cq_calls.specs.Calling.{IsCalledAt, HasCalled, IfCalledGoes, IsStill, LeavesFirst, LeavesOnly, WouldCome};
+ghost use Rattle.cq_calls.specs.Calling.{IsCalledAt, HasCalled, IfCalledGoes, IsStill, LeavesFirst, WalkComes, numbers_left};
+ghost use Rattle.cq_calls.specs.Matching.{Narrows};
 
+use crate::matching::may_match;
 use crate::trying::try_from;
 use cq_branch::begin::{Begun, begin_clause};
 use cq_branch::{Alternatives, Searching, Untried};
@@ -23,7 +26,7 @@ use cq_clauses::{ClauseNo, Clauses, Walk};
 use cq_control::{Choices, Continuation};
 use cq_resolve::program::{ProgramClause, calls_read_the_database, goal_key, walks_select_clauses};
 use cq_term::atoms::Atoms;
-use cq_term::{Pred, TermId};
+use cq_term::{Heap, Pred, TermId};
 use std::alloc::AllocError;
 
 /// What a goal that calls a predicate came to.
@@ -108,7 +111,7 @@ fn call_clauses(
     requires walk { IsWalk walk.now clauses.now }
     requires rest { rest < length world.old.second.now }
     requires marked { AreMarked (saved_values world.old.first world.old.second.saved) choices.old }
-    ensures comes { IfOk result (WouldCome atoms.now clauses.now (saved_values world.old.first world.old.second.saved) choices.old
+    ensures comes { IfOk result (WalkComes atoms.now clauses.now (saved_values world.old.first world.old.second.saved) choices.old
         (value world.old.first world.old.second.now) goal walk.now rest
         (saved_values world.new.first world.new.second.saved) choices.new (value world.new.first world.new.second.now)) }
     ensures there { IfOk result (λ o. IfSome o (λ k. k < length world.new.second.now)) }
@@ -126,9 +129,102 @@ fn call_clauses(
     if left.is_empty() {
         begin_only(world, choices, atoms, clauses, number, goal, walk, rest)
     } else {
-        begin_several(
-            world, choices, atoms, clauses, number, goal, walk, left, rest,
+        begin_first(world, choices, atoms, clauses, goal, walk, rest)
+    }
+}
+
+/// The same of several clauses: those that can't match the goal are passed over up to the first that may, and where none that may
+/// match is behind it, it is begun with no choice.
+fn begin_first(
+    world: &mut Searching,
+    choices: &mut Choices<Alternatives>,
+    atoms: &Atoms,
+    clauses: &Clauses<ProgramClause>,
+    goal: TermId,
+    walk: &Walk,
+    rest: Continuation,
+) -> Result<Option<Continuation>, AllocError>
+    requires ready { IsReady atoms.now (now_of world.old.first) }
+    requires different { AreDifferent atoms.now }
+    requires program { IsProgram atoms.now clauses.now }
+    requires goal { goal < length world.old.first.heap.now.terms }
+    requires walk { IsWalk walk.now clauses.now }
+    requires rest { rest < length world.old.second.now }
+    requires marked { AreMarked (saved_values world.old.first world.old.second.saved) choices.old }
+    ensures comes { IfOk result (WalkComes atoms.now clauses.now (saved_values world.old.first world.old.second.saved) choices.old
+        (value world.old.first world.old.second.now) goal walk.now rest
+        (saved_values world.new.first world.new.second.saved) choices.new (value world.new.first world.new.second.now)) }
+    ensures there { IfOk result (λ o. IfSome o (λ k. k < length world.new.second.now)) }
+    ensures marked { AreMarked (saved_values world.new.first world.new.second.saved) choices.new }
+    ensures open { AreOpen atoms.now clauses.now (saved_values world.old.first world.old.second.saved) choices.old
+        → AreOpen atoms.now clauses.now (saved_values world.new.first world.new.second.saved) choices.new }
+    ensures budget { world.new.first.store.pivots ≡ world.old.first.store.pivots }
+    ensures back { IfOk result (λ o. IfNone o (now_of world.new.first ≡ now_of world.old.first)) }
+    ensures err { OnErr result (IsStill world.old.first world.new.first world.old.second world.new.second choices.old choices.new) }
+{
+    let mut front = *walk;
+    let Some(first) = next_clause(&world.first.heap, clauses, goal, &mut front) else {
+        return Ok(None);
+    };
+    let mut others = first.behind;
+    if next_clause(&world.first.heap, clauses, goal, &mut others).is_none() {
+        begin_only(
+            world,
+            choices,
+            atoms,
+            clauses,
+            first.number,
+            goal,
+            &front,
+            rest,
         )
+    } else {
+        begin_several(
+            world,
+            choices,
+            atoms,
+            clauses,
+            first.number,
+            goal,
+            &front,
+            first.behind,
+            rest,
+        )
+    }
+}
+
+/// A clause of a walk, and the walk behind it.
+#[derive(Clone, Copy)]
+struct Next {
+    number: ClauseNo,
+    behind: Walk,
+}
+
+/// Passes over clauses of a walk that can't match the goal. The walk is left in front of the first that may. None where none may.
+fn next_clause(
+    heap: &Heap,
+    clauses: &Clauses<ProgramClause>,
+    goal: TermId,
+    walk: &mut Walk,
+) -> Option<Next>
+    requires goal { goal < length heap.now.now.terms }
+    requires walk { IsWalk walk.old clauses.now }
+    ensures passed { Narrows clauses.now (at heap.now.now.terms goal) (numbers_left clauses.now walk.old) (numbers_left clauses.now walk.new) }
+    ensures none { IfNone result (numbers_left clauses.now walk.new ≡ []) }
+    ensures some { IfSome result (λ r. LeavesFirst clauses.now walk.new r.number r.behind) }
+    ensures known { IfSome result (λ r. r.number < length clauses.now.contents) }
+    ensures opened { IsWalk walk.new clauses.now }
+    ensures behind { IfSome result (λ r. IsWalk r.behind clauses.now) }
+{
+    let mut behind = *walk;
+    'clauses: loop {
+        let Some(number) = clauses.step(&mut behind) else {
+            return None;
+        };
+        if may_match(heap, clauses.content(number).clause(), goal) {
+            return Some(Next { number, behind });
+        }
+        *walk = behind;
     }
 }
 
@@ -155,7 +251,7 @@ fn begin_several(
     requires next { LeavesFirst clauses.now walk.now first behind }
     requires rest { rest < length world.old.second.now }
     requires marked { AreMarked (saved_values world.old.first world.old.second.saved) choices.old }
-    ensures comes { IfOk result (WouldCome atoms.now clauses.now (saved_values world.old.first world.old.second.saved) choices.old
+    ensures comes { IfOk result (WalkComes atoms.now clauses.now (saved_values world.old.first world.old.second.saved) choices.old
         (value world.old.first world.old.second.now) goal walk.now rest
         (saved_values world.new.first world.new.second.saved) choices.new (value world.new.first world.new.second.now)) }
     ensures there { IfOk result (λ o. IfSome o (λ k. k < length world.new.second.now)) }
@@ -191,10 +287,10 @@ fn begin_only(
     requires goal { goal < length world.old.first.heap.now.terms }
     requires walk { IsWalk walk.now clauses.now }
     requires known { number < length clauses.now.contents }
-    requires only { LeavesOnly clauses.now walk.now number }
+    requires only { Narrows clauses.now (at world.old.first.heap.now.terms goal) (numbers_left clauses.now walk.now) (number ∷ []) }
     requires rest { rest < length world.old.second.now }
     requires marked { AreMarked (saved_values world.old.first world.old.second.saved) choices.old }
-    ensures comes { IfOk result (WouldCome atoms.now clauses.now (saved_values world.old.first world.old.second.saved) choices.old
+    ensures comes { IfOk result (WalkComes atoms.now clauses.now (saved_values world.old.first world.old.second.saved) choices.old
         (value world.old.first world.old.second.now) goal walk.now rest
         (saved_values world.new.first world.new.second.saved) choices.new (value world.new.first world.new.second.now)) }
     ensures there { IfOk result (λ o. IfSome o (λ k. k < length world.new.second.now)) }

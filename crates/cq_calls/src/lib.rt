@@ -3,6 +3,7 @@
 
 mod calling;
 mod laws;
+mod matching;
 mod trying;
 
 pub use calling::{Called, call_procedure};

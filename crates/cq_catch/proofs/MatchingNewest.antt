@@ -28,7 +28,8 @@ use Rattle.cq_branch.specs.declared.alternatives.Alternatives.TheVariants as alt
 use Rattle.cq_branch.proofs.Arrived.{comes_at_once}
 use Rattle.cq_branch.specs.Begun.{Prunes}
 use Rattle.cq_branch.specs.Stops.{FaultStops, waiting_in}
-use Rattle.cq_calls.proofs.Left.{Opened, AreLeft, numbers_left, content_is, none_left}
+use Rattle.cq_calls.specs.Calling.{numbers_left}
+use Rattle.cq_calls.proofs.Left.{Opened, AreLeft, content_is, none_left}
 use Rattle.cq_catch.specs.Matching.{MatchGoes, OfMatch}
 use Rattle.cq_catch.proofs.Comparing.{ComesBackTo, ready, asked_there, asked_is, rest_there, kept_with, kept_last, pruned_with, pruned_last, refused, taken, came_past}
 

@@ -1,9 +1,11 @@
 use Rattle.std.proofs.Common.{◌≡◌, ℕ, List, [], map, Option, None, Some, true, false, refl, sym, ap, ◌∙◌, subst}
 use Rattle.std.specs.Option.{option_map}
+use Rattle.spec_terms.specs.Term.{named}
 use Rattle.spec_syntax.specs.Trees.{Tree}
 use Rattle.spec_branch.specs.Branch.{Branch}
 use Rattle.spec_search.specs.Control.{user_row}
 use Rattle.spec_search.specs.Replies.{Place, Calls}
+use Rattle.spec_search.specs.Steps.{IsSelection}
 use Rattle.spec_builtins.specs.Built.{indicator_of}
 use Rattle.cq_attr.proofs.Elements.{on_err}
 use Rattle.cq_clauses.specs.Database.{clauses_of, database, kind_of}
@@ -14,14 +16,16 @@ use Rattle.cq_resolve.specs.Database.{Program, IsProgram, as_clause, as_kind}
 use Rattle.cq_resolve.specs.Keys.{key_of}
 use Rattle.cq_resolve.specs.StoredValue.{ClauseValue}
 use Rattle.cq_term.specs.Meaning.{at, blank}
+use Rattle.cq_term.specs.Texts.{text_of}
 use Rattle.cq_settle.specs.Contents.{Contents}
 use Rattle.spec_engine.specs.Cells.{Value}
 use Rattle.cq_branch.specs.Choices.{AreOpen}
 use Rattle.cq_branch.specs.Worlds.{saved_values, stack, value}
 use Rattle.cq_branch.specs.declared.alternatives.Alternatives.{Alternatives}
-use Rattle.cq_calls.specs.Calling.{CallBecomes, IsCalledAt, WouldCome}
+use Rattle.cq_calls.specs.Calling.{CallBecomes, IsCalledAt, WalkComes, numbers_left}
 use Rattle.cq_calls.proofs.CalledClauses.{raises, known, some_left, becomes, none_known, some_known}
-use Rattle.cq_calls.proofs.Left.{numbers_left, none_left}
+use Rattle.cq_calls.proofs.Left.{none_left}
+use Rattle.cq_calls.proofs.Narrowing.{selected_of}
 use Rattle.cq_calls.proofs.Waiting.{keeps_all, none_comes}
 use Rattle.cq_calls.proofs.calling.call_procedure.Goals as goal
 use Rattle.cq_calls.proofs.calling.call_procedure.Goals.{After-walk-walk, After-is_none, After-is_empty}
@@ -54,27 +58,29 @@ All-of c p g =
 -- from each search with the call's branches in front it comes to where the clauses lead
 row_of : (c : After-walk-walk) (p : Place) (behind : List Branch) (g : Tree) → Calls-at c p behind g → All-of c p g
     → (more : List (Value Contents)) (after : List Alternatives) (later : Value Contents) (current : Option ℕ)
-    → WouldCome c.args.atoms.now c.args.clauses.now (before c) c.args.choices.now (now c) c.args.goal c.walk-walk.result c.args.rest more after later current
+    → WalkComes c.args.atoms.now c.args.clauses.now (before c) c.args.choices.now (now c) c.args.goal c.walk-walk.result c.args.rest more after later current
     → CallBecomes c.args.atoms.now (stack c.args.atoms.now c.walk-walk.new.self more after) later current p behind g
 row_of c p behind g i row more after later current comes =
     let texts = c.args.atoms.now in
     let v = c.args.clauses.now in
     let called = clauses_of c.args.pred (database v.procedures) in
+    let goal = at (now c).0.heap.terms c.args.goal in
+    let names = i.place.0.continuation.state.ready.stands.names c.args.goal blank c.requires.goal in
+    let selected = c.walks_select_clauses.ensures texts i.different p goal names v.contents i.program.contents called (c.calls_read_the_database.ensures.known texts c.args.pred v i.program) in
     subst (λ (u : Program). CallBecomes texts (stack texts u more after) later current p behind g) (sym c.walk-walk.ensures.same)
-    (becomes texts v (before c) c.args.choices.now (now c) c.args.pred c.args.goal c.args.rest p behind g i c.walk-walk.result (tried c) row
-    (c.walks_select_clauses.ensures texts i.different p (at (now c).0.heap.terms c.args.goal)
-    (i.place.0.continuation.state.ready.stands.names c.args.goal blank c.requires.goal) v.contents i.program.contents called
-    (c.calls_read_the_database.ensures.known texts c.args.pred v i.program))
-    more after later current comes)
+    (becomes texts v (before c) c.args.choices.now (now c) c.args.pred c.args.goal c.args.rest p behind g i comes.some row
+    (selected_of texts i.different p v i.program.contents goal names called (numbers_left v c.walk-walk.result) comes.some
+    (subst (λ ns. IsSelection p (named (text_of texts) goal) (map (as_clause texts v.contents) called) (map (as_clause texts v.contents) ns)) (sym (tried c)) selected) comes.narrows)
+    more after later current comes.comes)
 
 -- the same over the program as the walk leaves it
 row_after : (c : After-walk-walk) (p : Place) (behind : List Branch) (g : Tree) → Calls-at c p behind g → All-of c p g
     → (more : List (Value Contents)) (after : List Alternatives) (later : Value Contents) (current : Option ℕ)
-    → WouldCome c.args.atoms.now c.walk-walk.new.self (before c) c.args.choices.now (now c) c.args.goal c.walk-walk.result c.args.rest more after later current
+    → WalkComes c.args.atoms.now c.walk-walk.new.self (before c) c.args.choices.now (now c) c.args.goal c.walk-walk.result c.args.rest more after later current
     → CallBecomes c.args.atoms.now (stack c.args.atoms.now c.walk-walk.new.self more after) later current p behind g
 row_after c p behind g i row more after later current comes =
     row_of c p behind g i row more after later current
-    (subst (λ (u : Program). WouldCome c.args.atoms.now u (before c) c.args.choices.now (now c) c.args.goal c.walk-walk.result c.args.rest more after later current) c.walk-walk.ensures.same comes)
+    (subst (λ (u : Program). WalkComes c.args.atoms.now u (before c) c.args.choices.now (now c) c.args.goal c.walk-walk.result c.args.rest more after later current) c.walk-walk.ensures.same comes)
 
 -- the kind of the procedure, as it is found
 kind_found : (c : After-is_none) (p : Place) (behind : List Branch) (g : Tree)
