@@ -11,6 +11,9 @@ use Rattle.spec_linear.proofs.Values.{is_zero-true, is_zero-of}
 use Rattle.spec_linear.proofs.Ordered.{form_same, IsForm-scaled_form, IsForm-negated_form}
 use Rattle.spec_branch.specs.Expressions.{number_of, is_zero_form, quotient_form, power}
 use Rattle.spec_branch.proofs.Kept.{is_constant_form}
+use Rattle.spec_simplex.specs.Overflow.{on}
+use Rattle.spec_transcript.specs.Operands.{product_operands, quotient_operands}
+use Rattle.cq_frac.specs.declared.Operation.TheVariants.{Product, Quotient}
 use Rattle.cq_frac.specs.declared.row.Entry.{Entry}
 use Rattle.cq_frac.specs.Rows.{over, negated}
 use Rattle.cq_form.specs.Entries.{form_of, products_of}
@@ -79,6 +82,19 @@ nonzero_quotient f p q e n = go (is_zero q) refl ∙ ap (quotient_form f) (sym e
     go : (z : Bool) → is_zero q ≡ z → Some (scaled_form (inv_ℚ q) f) ≡ quotient_form f (Some q)
     go true k = absurd (n (is_zero-true q k))
     go false k = ap (λ (b : Bool). cond b None (Some (scaled_form (inv_ℚ q) f))) (sym k)
+
+-- ---- what is multiplied and divided
+
+pub left_operands : (f : Linear) (p : ℚ) (g : Linear) (q : Option ℚ) → on Product f g ∷ [] ≡ product_operands f (Some p) g q
+left_operands f p g None = refl
+left_operands f p g (Some q) = refl
+
+pub nonzero_operands : (f g : Linear) (p : Option ℚ) (q : ℚ) → p ≡ Some q → q ≢ 0ℚ → on Quotient f g ∷ [] ≡ quotient_operands f g p
+nonzero_operands f g p q e n = by (is_zero q) refl ∙ ap (quotient_operands f g) (sym e)
+  where
+    by : (z : Bool) → is_zero q ≡ z → on Quotient f g ∷ [] ≡ quotient_operands f g (Some q)
+    by true k = absurd (n (is_zero-true q k))
+    by false k = ap (λ (b : Bool). cond b [] (on Quotient f g ∷ [])) (sym k)
 
 -- ---- powers
 

@@ -8,7 +8,7 @@ ghost use Rattle.spec_terms.specs.Operations.{unary_value, least, greatest};
 ghost use Rattle.spec_terms.specs.declared.arithmetic.UnaryOperation.TheVariants as arithmetic;
 ghost use Rattle.spec_branch.specs.Expressions.{is_zero_form, number_of, exponent_of, power as power_of, power_form, power_of_form};
 ghost use Rattle.spec_branch.specs.Expressions.{product_form, quotient_form, on_number, on_numbers, unary_of, binary_of, binary_form};
-ghost use Rattle.spec_transcript.specs.Operands.{power_products, power_operands, binary_operands};
+ghost use Rattle.spec_transcript.specs.Operands.{power_products, power_operands, product_operands, quotient_operands, binary_operands};
 ghost use Rattle.cq_frac.specs.declared.Operation.TheVariants.{Sum, Difference, Product, Quotient};
 ghost use Rattle.cq_frac.specs.declared.Pair.{Pair};
 ghost use Rattle.cq_form.specs.Entries.{form_of};
@@ -209,7 +209,7 @@ pub(crate) fn difference(left: Form, right: &Form) -> Result<Form, Refusal>
 fn times(left: &Form, right: &Form) -> Result<Option<Form>, Refusal>
     ensures value { IfOk result (λ r. r ≡ product_form left.now (number_of left.now) right.now (number_of right.now)) }
     ensures overflow { (pair : Pair) → result ≡ Err (Refusal.Overflow pair)
-        → ComesFrom (on Product left.now right.now ∷ []) pair }
+        → ComesFrom (product_operands left.now (number_of left.now) right.now (number_of right.now)) pair }
 {
     if let Some(factor) = number(right) {
         return multiplied(left, factor);
@@ -252,7 +252,7 @@ fn turned(refusal: Refusal) -> Refusal
 fn over(alloc: Global, left: &Form, right: &Form) -> Result<Option<Form>, Refusal>
     ensures value { IfOk result (λ r. r ≡ quotient_form left.now (number_of right.now)) }
     ensures overflow { (pair : Pair) → result ≡ Err (Refusal.Overflow pair)
-        → ComesFrom (on Quotient left.now right.now ∷ []) pair }
+        → ComesFrom (quotient_operands left.now right.now (number_of right.now)) pair }
 {
     let Some(divisor) = number(right) else {
         return Ok(None);

@@ -1,6 +1,6 @@
 // Sums of many forms: the operands wait, and then the factors of each variable are added in their turn.
 
-ghost use Rattle.std.specs.Prelude.{◌≡◌, ◌++◌, ◌∷◌, [], ℕ, IfOk};
+ghost use Rattle.std.specs.Prelude.{◌≡◌, ◌<◌, ◌++◌, ◌∷◌, [], ℕ, length, true, IfOk};
 ghost use Rattle.spec_numbers.specs.Rational.{ℚ};
 ghost use Rattle.spec_numbers.specs.Sums as sums;
 ghost use Rattle.cq_frac.specs.declared.Pair.{Pair};
@@ -38,8 +38,10 @@ impl Sum {
         }
     }
 
-    /// Whether the form had better wait: to join it at once would move many entries.
-    pub(crate) fn lets_wait(&self, form: &Form) -> bool {
+    /// Whether the form had better wait: to join it at once would move many entries. Where some wait it does.
+    pub(crate) fn lets_wait(&self, form: &Form) -> bool
+        ensures { 0 < length self.now.more.items → result ≡ true }
+    {
         if !self.more.is_empty() {
             return true;
         }

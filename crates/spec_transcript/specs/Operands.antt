@@ -1,7 +1,7 @@
 -- The operations by which the forms of a told or asked term are made, with the forms of their operands.
-use Rattle.std.specs.Prelude.{ℕ, zero, suc, List, [], ◌∷◌, ◌++◌, Option, Some, None}
+use Rattle.std.specs.Prelude.{ℕ, zero, suc, List, [], ◌∷◌, ◌++◌, Option, Some, None, if◌then◌else◌}
 use Rattle.spec_numbers.specs.Rational.{ℚ}
-use Rattle.spec_linear.specs.Form.{Linear, constant_form}
+use Rattle.spec_linear.specs.Form.{Linear, is_zero, constant_form}
 use Rattle.cq_frac.specs.declared.Operation.{Operation}
 use Rattle.cq_frac.specs.declared.Operation.TheVariants.{Sum, Difference, Product, Quotient}
 use Rattle.spec_simplex.specs.Overflow.{Operands, on}
@@ -31,13 +31,32 @@ abbrev pub of_powers : Option Linear → Option Linear → List Operands
 of_powers (Some f) (Some g) = power_operands (number_of f) (exponent_of (number_of g))
 of_powers f g = []
 
+-- the operands of a product, of which one side is a number: where neither is, it waits and nothing is multiplied
+abbrev pub product_operands : Linear → Option ℚ → Linear → Option ℚ → List Operands
+product_operands f p g (Some q) = on Product f g ∷ []
+product_operands f (Some p) g None = on Product f g ∷ []
+product_operands f None g None = []
+
+abbrev pub of_products : Option Linear → Option Linear → List Operands
+of_products (Some f) (Some g) = product_operands f (number_of f) g (number_of g)
+of_products f g = []
+
+-- the operands of a quotient, whose right side is a number that isn't zero: else it waits
+abbrev pub quotient_operands : Linear → Linear → Option ℚ → List Operands
+quotient_operands f g None = []
+quotient_operands f g (Some q) = if is_zero q then [] else on Quotient f g ∷ []
+
+abbrev pub of_quotients : Option Linear → Option Linear → List Operands
+of_quotients (Some f) (Some g) = quotient_operands f g (number_of g)
+of_quotients f g = []
+
 -- the operation of a name with two arguments
 abbrev pub binary_operands : Option BinaryName → Option Linear → Option Linear → List Operands
 binary_operands None f g = []
 binary_operands (Some Plus) f g = both Sum f g
 binary_operands (Some Minus) f g = both Difference f g
-binary_operands (Some Times) f g = both Product f g
-binary_operands (Some Over) f g = both Quotient f g
+binary_operands (Some Times) f g = of_products f g
+binary_operands (Some Over) f g = of_quotients f g
 binary_operands (Some Power) f g = of_powers f g
 binary_operands (Some Least) f g = []
 binary_operands (Some Greatest) f g = []

@@ -16,6 +16,10 @@ two = int_ℚ (pos 2)
 abbrev pub times_two : ℚ → Operands
 times_two q = on Product (constant_form q) (constant_form two)
 
+-- 2*X
+abbrev pub doubled : Tree
+doubled = compound2 "*" (natural 2) (Var 0)
+
 -- X*Y
 abbrev pub product : Tree
 product = compound2 "*" (Var 0) (Var 1)

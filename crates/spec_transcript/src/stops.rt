@@ -3,16 +3,17 @@
 #![tactic(auto)]
 
 ghost use Rattle.std.specs.Prelude.{◌≡◌, [], ◌∷◌};
-ghost use Rattle.spec_linear.specs.Form.{variable_form};
+ghost use Rattle.spec_linear.specs.Form.{constant_form, variable_form};
 ghost use Rattle.spec_branch.specs.Expressions.{power};
 ghost use Rattle.cq_frac.specs.declared.Operation.TheVariants.{Product};
 ghost use Rattle.spec_simplex.specs.Overflow.{on};
 ghost use Rattle.spec_branch.specs.Alike.{no_values};
 ghost use Rattle.spec_transcript.specs.Operands.{expression_operands};
-ghost use Rattle.spec_transcript.specs.Samples.{two, times_two, product, cube};
+ghost use Rattle.spec_transcript.specs.Samples.{two, times_two, doubled, product, cube};
 
-/// The operations of a product that waits, and of a power, which counts as products of its base.
+/// The operations of a product by a number, of one that waits, which has none, and of a power, which counts as products of its base.
 pub fn operations_of_terms()
-    ensures waiting { expression_operands no_values product ≡ on Product (variable_form 0) (variable_form 1) ∷ [] }
+    ensures product { expression_operands no_values doubled ≡ on Product (constant_form two) (variable_form 0) ∷ [] }
+    ensures waiting { expression_operands no_values product ≡ [] }
     ensures power { expression_operands no_values cube ≡ times_two (power two 1) ∷ times_two (power two 2) ∷ [] }
 {}

@@ -5,4 +5,4 @@ use Rattle.spec_transcript.proofs.stops.operations_of_terms.Goals as goal
 
 pub returns : goal.returns
 unfolding gcd ratio int_ℚ ◌*ℚ◌
-returns c = record { waiting = refl; power = refl }
+returns c = record { product = refl; waiting = refl; power = refl }
