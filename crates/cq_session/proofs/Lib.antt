@@ -8,3 +8,4 @@ pub mod Courses
 pub mod Asked
 pub mod Lines
 pub mod Outcomes
+pub mod Causes

@@ -1,13 +1,13 @@
 -- What a run shows of the outside, by how it ended.
 use Rattle.std.proofs.Common.{◌≡◌, ◌≤◌, ℕ, List, [], length, Bool, true, false, Option, Some, None, refl, sym, ap, subst, append-nil, inl, inr}
-use Rattle.std.specs.Prelude.{IfSome, Err}
+use Rattle.std.specs.Prelude.{IfSome}
 use Rattle.cq_outside.specs.Bytes.{Adds, Appends, Begins}
 use Rattle.cq_outside.specs.declared.shelf.TheConstants.{SIZE_LIMIT}
 use Rattle.cq_words.specs.Asked.{Asked, Task, ToRun, ToGen}
 use Rattle.cq_words.specs.declared.words.WordsFault.{WordsFault}
 use Rattle.cq_words.specs.declared.words.WordsFault.TheVariants as words_fault
 use Rattle.cq_session.specs.Halts.{Halts, IsWhole}
-use Rattle.cq_session.specs.Progress.{CountsWrites, marks_of}
+use Rattle.cq_session.specs.Progress.{marks_of}
 use Rattle.cq_session.specs.declared.transcript.halt.Halt.{Halt}
 use Rattle.cq_session.specs.declared.transcript.halt.Halt.TheVariants.{Memory}
 use Rattle.cq_session.specs.declared.transcript.halt.Halt.TheVariants as halt
@@ -18,7 +18,7 @@ use Rattle.spec_command.specs.Outcome.{GenWrites}
 use Rattle.spec_numbers.specs.Texts.{Text}
 use Rattle.spec_transcript.specs.Session.{Opening, none}
 use Rattle.spec_search.specs.Database.{initial}
-use Rattle.spec_command.specs.Causes.{Caused, Completeness, counted, Counts, GenCompleteness, IsClear}
+use Rattle.spec_command.specs.Causes.{Caused, Completeness, Counts, GenCompleteness, IsClear}
 use Rattle.spec_command.specs.Causes as causes
 use Rattle.spec_command.specs.Endings.{Ended, Ends, Gains, GenEnded, IsLine, IsTold, Sinks, Tells, memory_line, words_line}
 use Rattle.spec_command.specs.Endings as endings
@@ -207,25 +207,6 @@ gen_ended n e s is held now err told h = record {
   written = subst (λ x. Gains x held now h.text) (sym is) h.written;
   told = told;
 }
-
--- what the status of a line says of the counts, of which a write that failed made one rise
-module _ (n absent refused failed taken before after : ℕ) where
-  abbrev pub IsCaused : Status → Type 0
-  IsCaused s = Caused s (Some (ToGen n)) (counted absent refused failed taken before) (counted absent refused failed taken after)
-
-  pub whole_caused : (faulty stopped : Bool) → IsCaused (whole_status faulty stopped)
-  whole_caused true true = refl
-  whole_caused false true = refl
-  whole_caused true false = refl
-  whole_caused false false = refl
-
-  pub broken_caused : (h : Halt) → CountsWrites {T = Lines} before after (Err h) → IsCaused (status_of (Broken h))
-  broken_caused halt.Write counts = (refl, counts)
-  broken_caused Memory counts = tt
-  broken_caused (halt.Absent name) counts = absurd counts
-  broken_caused (halt.TooLarge name) counts = absurd counts
-  broken_caused halt.TooMuchInput counts = absurd counts
-  broken_caused halt.Read counts = absurd counts
 
 pub gen_complete : (n : ℕ) (e : Ending) (s : Status) → s ≡ status_of e → (held now : Option (List ℕ)) (before behind : Counts) → GenCompleteness
     → (asked : Option Task) → asked ≡ Some (ToGen n) → Caused (status_of e) asked before behind → GenShows n e held now

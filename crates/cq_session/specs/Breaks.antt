@@ -1,6 +1,5 @@
 -- Why and where the transcript of files and of the input breaks off, and what that says of counts.
 use Rattle.std.specs.Prelude.{◌≡◌, ◌⊎◌, ◌<◌, ◌≤◌, ℕ, List, ◌∷◌, ◌++◌, length, take, true, Option, Some, None, Ok, Err, Result, IfSome, ⊤}
-use Rattle.cq_outside.specs.Counts.{Rose, RoseBeyond}
 use Rattle.cq_outside.specs.Files.{Files, IsTooLarge}
 use Rattle.cq_outside.specs.declared.shelf.TheConstants.{SIZE_LIMIT}
 use Rattle.cq_read.specs.Inputs.{Input}
@@ -10,7 +9,7 @@ use Rattle.spec_search.specs.Database.{Database}
 use Rattle.spec_transcript.specs.Causes.{Budgets}
 use Rattle.spec_transcript.specs.declared.Source.TheVariants as source
 use Rattle.spec_transcript.specs.Session.{Session, Opening, Reading, Reader, Marks}
-use Rattle.spec_command.specs.Causes.{Counts}
+use Rattle.spec_command.specs.Causes.{Counts, LimitPassed, LoadFailed, LoadRefused, NoneFailed, ReadFailed, WriteFailed}
 use Rattle.spec_command.specs.Outside.{Outside, given}
 use Rattle.cq_session.specs.Progress.{Advanced, Broken}
 use Rattle.cq_session.specs.declared.transcript.halt.Halt.{Halt}
@@ -77,16 +76,21 @@ Breaks b o left from Memory held now = Broken b o from Memory held now
 
 -- ---- counts
 
--- what a halt says of the counts before and after
+-- what a halt says of the counts before and after: its cause is counted, and no other
 abbrev pub CausedBy : Counts → Counts → Halt → Type 0
-CausedBy old new (Absent name) = Rose old.shelf_refused new.shelf_refused
-CausedBy old new (TooLarge name) = Rose old.shelf_refused new.shelf_refused
-CausedBy old new TooMuchInput = RoseBeyond SIZE_LIMIT old.source_taken new.source_taken
-CausedBy old new Read = Rose old.source_faults new.source_faults ⊎ Rose old.shelf_faults new.shelf_faults
-CausedBy old new Write = Rose old.out_faults new.out_faults
-CausedBy old new Memory = ⊤
+CausedBy old new (Absent name) = LoadRefused old new
+CausedBy old new (TooLarge name) = LoadRefused old new
+CausedBy old new TooMuchInput = LimitPassed old new
+CausedBy old new Read = ReadFailed old new ⊎ LoadFailed old new
+CausedBy old new Write = WriteFailed old new
+CausedBy old new Memory = NoneFailed old new
 
 -- where nothing breaks off, the counts stay
 abbrev pub CountedBy : {T : Type 0} → Counts → Counts → Result T Halt → Type 0
 CountedBy old new (Ok value) = new ≡ old
 CountedBy old new (Err halt) = CausedBy old new halt
+
+-- where nothing breaks off, no fault is counted
+abbrev pub FaultsCountedBy : {T : Type 0} → Counts → Counts → Result T Halt → Type 0
+FaultsCountedBy old new (Ok value) = NoneFailed old new
+FaultsCountedBy old new (Err halt) = CausedBy old new halt

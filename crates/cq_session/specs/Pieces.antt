@@ -48,7 +48,7 @@ IsUnread left now halt = ⊤
 abbrev pub CountsReads : {T : Type 0} → ℕ → ℕ → Result T Halt → Type 0
 CountsReads before now (Ok value) = now ≡ before
 CountsReads before now (Err Read) = Rose before now
-CountsReads before now (Err Memory) = ⊤
+CountsReads before now (Err Memory) = now ≡ before
 CountsReads before now (Err Write) = ⊥
 CountsReads before now (Err (Absent name)) = ⊥
 CountsReads before now (Err (TooLarge name)) = ⊥

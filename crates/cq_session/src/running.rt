@@ -3,7 +3,7 @@
 ghost use Rattle.std.specs.Prelude.{◌≡◌, ◌<◌, ◌≤◌, ℕ, [], None, Some, IfOk, IfErr, IfSome};
 ghost use Rattle.cq_words.specs.Asked.{ToGen, as_asked};
 ghost use Rattle.cq_words.specs.Language.{asked_by};
-ghost use Rattle.cq_session.specs.Breaks.{CausedBy};
+ghost use Rattle.cq_session.specs.Breaks.{FaultsCountedBy};
 ghost use Rattle.cq_session.specs.Halts.{Halts, IsWhole as IsWholeTranscript};
 ghost use Rattle.cq_session.specs.Progress.{marks_of};
 ghost use Rattle.spec_command.specs.Causes.{Caused, IsClear, IsWhole, counted};
@@ -34,9 +34,9 @@ fn transcribe<'a, P: Interpreter + Drop, F: Shelf, I: Source, O: Sink>(
         IsWholeTranscript o (as_asked asked.now) (I.left input.new) (marks_of lines) (O.held out.old) (O.held out.new))) }
     ensures part { IfErr result (λ halt. IfSome (outside (F.files shelf.old) (I.left input.old)) (λ o.
         Halts o (as_asked asked.now) (I.left input.new) halt (O.held out.old) (O.held out.new))) }
-    ensures cause { IfErr result (CausedBy
+    ensures cause { FaultsCountedBy
         (counted (F.faults shelf.old) (F.refused shelf.old) (I.faults input.old) (I.taken input.old) (O.faults out.old))
-        (counted (F.faults shelf.new) (F.refused shelf.new) (I.faults input.new) (I.taken input.new) (O.faults out.new))) }
+        (counted (F.faults shelf.new) (F.refused shelf.new) (I.faults input.new) (I.taken input.new) (O.faults out.new)) result }
     ensures unasked { (as_asked asked.now).files ≡ [] → shelf.new ≡ shelf.old }
 {
     let mut program = match P::new(alloc, asked.steps, asked.pivots, asked.answers) {

@@ -101,9 +101,9 @@ module _ (o : Outside) (left : List ℕ) (old new : Counts) where
   whole a text line clear Faulty ends caused = tt
   whole a text line clear BadWords ends caused = cc
   whole a text line clear NoFile ends caused = no_file a text line clear ends
-  whole a text line clear ReadFault ends (takes, inl rose) = clear.source rose
-  whole a text line clear ReadFault ends (takes, inr rose) = clear.shelf rose
-  whole a text line clear WriteFault ends (takes, rose) = clear.out rose
+  whole a text line clear ReadFault ends (takes, inl failed) = clear.source failed.reads
+  whole a text line clear ReadFault ends (takes, inr failed) = clear.shelf failed.loads
+  whole a text line clear WriteFault ends (takes, failed) = clear.out failed.writes
   whole a text line clear Stopped ends caused = no_stopped a text line clear ends
   whole a text line clear NoMemory ends caused = tt
 
@@ -113,7 +113,7 @@ completeness o left a status text line old new ends caused clear = whole o left 
 pub gen_completeness : GenCompleteness
 gen_completeness n status text line old new (generated.done writes) caused clear = tt
 gen_completeness n status text line old new (generated.stopped {line = written} writes) caused clear = clear.no_stop written writes
-gen_completeness n status text line old new (generated.write_fault stops writes begins) caused clear = clear.out caused.1
+gen_completeness n status text line old new (generated.write_fault stops writes begins) caused clear = clear.out caused.1.writes
 gen_completeness n status text line old new generated.no_memory caused clear = tt
 
 -- ---- lines

@@ -29,17 +29,57 @@ counted absent refused failed taken unwritten =
 abbrev pub TakesWords : Option Task → Type 0
 TakesWords asked = is_some asked ≡ true
 
--- what each status says of the words and of the counts before and after the run
+-- no fault is counted: loads that failed and that were refused, reads that failed and writes that failed are as many as before
+pub record NoneFailed (old new : Counts) : Type 0 where
+  pub loads : new.shelf_faults ≡ old.shelf_faults
+  pub refusals : new.shelf_refused ≡ old.shelf_refused
+  pub reads : new.source_faults ≡ old.source_faults
+  pub writes : new.out_faults ≡ old.out_faults
+
+-- a file is refused, and no load, read or write failed
+pub record LoadRefused (old new : Counts) : Type 0 where
+  pub refusals : Rose old.shelf_refused new.shelf_refused
+  pub loads : new.shelf_faults ≡ old.shelf_faults
+  pub reads : new.source_faults ≡ old.source_faults
+  pub writes : new.out_faults ≡ old.out_faults
+
+-- more bytes are taken of the source than the limit lets in, and no fault is counted
+pub record LimitPassed (old new : Counts) : Type 0 where
+  pub taken : RoseBeyond SIZE_LIMIT old.source_taken new.source_taken
+  pub none_failed : NoneFailed old new
+
+-- a load failed, and no other fault is counted
+pub record LoadFailed (old new : Counts) : Type 0 where
+  pub loads : Rose old.shelf_faults new.shelf_faults
+  pub refusals : new.shelf_refused ≡ old.shelf_refused
+  pub reads : new.source_faults ≡ old.source_faults
+  pub writes : new.out_faults ≡ old.out_faults
+
+-- a read failed, and no other fault is counted
+pub record ReadFailed (old new : Counts) : Type 0 where
+  pub reads : Rose old.source_faults new.source_faults
+  pub loads : new.shelf_faults ≡ old.shelf_faults
+  pub refusals : new.shelf_refused ≡ old.shelf_refused
+  pub writes : new.out_faults ≡ old.out_faults
+
+-- a write failed, and no other fault is counted
+pub record WriteFailed (old new : Counts) : Type 0 where
+  pub writes : Rose old.out_faults new.out_faults
+  pub loads : new.shelf_faults ≡ old.shelf_faults
+  pub refusals : new.shelf_refused ≡ old.shelf_refused
+  pub reads : new.source_faults ≡ old.source_faults
+
+-- What each status says of the words and of the counts before and after the run: one cause is counted, and no other. Words that are
+-- not in the language change no count, and where memory was wanting no fault is counted.
 abbrev pub Caused : Status → Option Task → Counts → Counts → Type 0
-Caused Done asked old new = TakesWords asked
-Caused Faulty asked old new = TakesWords asked
-Caused BadWords asked old new = asked ≡ None
-Caused NoFile asked old new = TakesWords asked
-    × (Rose old.shelf_refused new.shelf_refused ⊎ RoseBeyond SIZE_LIMIT old.source_taken new.source_taken)
-Caused ReadFault asked old new = TakesWords asked × (Rose old.source_faults new.source_faults ⊎ Rose old.shelf_faults new.shelf_faults)
-Caused WriteFault asked old new = TakesWords asked × Rose old.out_faults new.out_faults
-Caused Stopped asked old new = TakesWords asked
-Caused NoMemory asked old new = ⊤
+Caused Done asked old new = TakesWords asked × NoneFailed old new
+Caused Faulty asked old new = TakesWords asked × NoneFailed old new
+Caused BadWords asked old new = (asked ≡ None) × (new ≡ old)
+Caused NoFile asked old new = TakesWords asked × (LoadRefused old new ⊎ LimitPassed old new)
+Caused ReadFault asked old new = TakesWords asked × (ReadFailed old new ⊎ LoadFailed old new)
+Caused WriteFault asked old new = TakesWords asked × WriteFailed old new
+Caused Stopped asked old new = TakesWords asked × NoneFailed old new
+Caused NoMemory asked old new = NoneFailed old new
 
 -- ---- completeness
 

@@ -4,7 +4,7 @@ ghost use Rattle.std.specs.Prelude.{◌≡◌, ◌<◌, ℕ, List, [], Option, S
 ghost use Rattle.spec_command.specs.Causes.{counted};
 ghost use Rattle.spec_command.specs.Outside.{Outside};
 ghost use Rattle.spec_transcript.specs.Session.{Opening};
-ghost use Rattle.cq_session.specs.Breaks.{Breaks, CausedBy};
+ghost use Rattle.cq_session.specs.Breaks.{Breaks, FaultsCountedBy};
 ghost use Rattle.cq_session.specs.Pieces.{CountsReads, HasReadInput, IsPiece, IsUnread, taking};
 ghost use Rattle.cq_session.specs.Progress.{marks_of};
 
@@ -65,8 +65,8 @@ pub(crate) fn write_input<'a, P: Interpreter, I: Bytes, O: Sink>(
         → HasReadInput (P.budgets program.old) o (I.left input.new) (Opening (P.program program.old).database []) (marks_of lines) (O.held out.old) (O.held out.new)) }
     ensures part { IfErr result (λ halt. (o : Outside) → I.left input.old ≡ Some o.input
         → Breaks (P.budgets program.old) o (I.left input.new) (Opening (P.program program.old).database []) halt (O.held out.old) (O.held out.new)) }
-    ensures cause { IfErr result (λ halt. (failed refused : ℕ) → CausedBy (counted failed refused (I.faults input.old) (I.taken input.old) (O.faults out.old))
-        (counted failed refused (I.faults input.new) (I.taken input.new) (O.faults out.new)) halt) }
+    ensures cause { (failed refused : ℕ) → FaultsCountedBy (counted failed refused (I.faults input.old) (I.taken input.old) (O.faults out.old))
+        (counted failed refused (I.faults input.new) (I.taken input.new) (O.faults out.new)) result }
 {
     let mut text = Feed::new(alloc);
     let mut lines = Lines::none();

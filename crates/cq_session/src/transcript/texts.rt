@@ -7,7 +7,7 @@ ghost use Rattle.spec_command.specs.Causes.{counted};
 ghost use Rattle.spec_command.specs.Outside.{Outside, budgets_of, outside};
 ghost use Rattle.spec_search.specs.Database.{initial};
 ghost use Rattle.spec_transcript.specs.Session.{Opening};
-ghost use Rattle.cq_session.specs.Breaks.{Breaks, CausedBy, CountedBy};
+ghost use Rattle.cq_session.specs.Breaks.{Breaks, CountedBy, FaultsCountedBy};
 ghost use Rattle.cq_session.specs.Halts.{Halts, IsWhole};
 ghost use Rattle.cq_session.specs.Progress.{Advanced, marks_of};
 
@@ -72,9 +72,9 @@ pub fn write_transcript<'a, P: Interpreter, F: Shelf, I: Source, O: Sink>(
     ensures part { IfErr result (λ halt. (o : Outside) (a : Asked) → outside (F.files shelf.old) (I.left input.old) ≡ Some o
         → P.budgets program.old ≡ budgets_of a → a.files ≡ map (λ s. s.now) files.now
         → Halts o a (I.left input.new) halt (O.held out.old) (O.held out.new)) }
-    ensures cause { IfErr result (CausedBy
+    ensures cause { FaultsCountedBy
         (counted (F.faults shelf.old) (F.refused shelf.old) (I.faults input.old) (I.taken input.old) (O.faults out.old))
-        (counted (F.faults shelf.new) (F.refused shelf.new) (I.faults input.new) (I.taken input.new) (O.faults out.new))) }
+        (counted (F.faults shelf.new) (F.refused shelf.new) (I.faults input.new) (I.taken input.new) (O.faults out.new)) result }
     ensures unread { files.now ≡ [] → shelf.new ≡ shelf.old }
 {
     let before = write_files(alloc, program, files, answers, shelf, out)?;

@@ -1,4 +1,6 @@
+use Rattle.std.proofs.Common.{refl, ap}
 use Rattle.std.proofs.lemmas.Result.{err_from_is_err_and}
+use Rattle.cq_session.proofs.Causes.{writing_caused}
 use Rattle.cq_session.proofs.Consulting.{missing_breaks, reader, reader_is_at, text_broken, text_ends, goals_broken, file_whole}
 use Rattle.cq_session.proofs.transcript.files.write_file.Goals as goal
 
@@ -24,6 +26,24 @@ returns-in_err-lines-clause-part g c =
     text_broken b o from c.args.name.now names c.in_ok-text.text held l.0 l.1 l.2 c.requires.none_waits _ left _
     (c.in_err-lines.ensures.part o (reader b o from c.args.name.now names c.in_ok-text.text held l.0 l.1 l.2 c.requires.none_waits)
     (reader_is_at b o from c.args.name.now names c.in_ok-text.text held l.0 l.1 l.2 c.requires.none_waits)))
+
+pub returns-in_err-lines-clause-cause : goal.returns-in_err-lines-clause-cause
+returns-in_err-lines-clause-cause g c =
+    let p = err_from_is_err_and c.from_residual-in_err-lines.result c.from_residual-in_err-lines.ensures.1 in
+    rw (p.1, p.2)
+    (λ failed taken.
+    let same = c.in_ok-text.ensures.cause failed taken (g.O.Sink.faults c.args.out.now) in
+    writing_caused _ _ (ap (λ k. k.shelf_faults) same) (ap (λ k. k.shelf_refused) same) refl (g.O.Sink.faults c.args.out.now) refl c.in_err-lines.field-0.0
+    c.in_err-lines.ensures.cause)
+
+pub returns-in_err-more-clause-cause : goal.returns-in_err-more-clause-cause
+returns-in_err-more-clause-cause g c =
+    let p = err_from_is_err_and c.from_residual-in_err-more.result c.from_residual-in_err-more.ensures.1 in
+    rw (p.1, p.2)
+    (λ failed taken.
+    let same = c.in_ok-text.ensures.cause failed taken (g.O.Sink.faults c.args.out.now) in
+    writing_caused _ _ (ap (λ k. k.shelf_faults) same) (ap (λ k. k.shelf_refused) same) refl (g.O.Sink.faults c.write_text.new.out) c.in_ok-lines.ensures.cause
+    c.in_err-more.field-0.0 c.in_err-more.ensures.cause)
 
 pub returns-in_err-more-clause-part : goal.returns-in_err-more-clause-part
 returns-in_err-more-clause-part g c =

@@ -1,3 +1,4 @@
+use Rattle.std.proofs.Common.{◌∙◌, ap}
 use Rattle.std.proofs.lemmas.Result.{err_from_is_err_and}
 use Rattle.cq_session.proofs.Steps.{advanced_both}
 use Rattle.cq_session.proofs.Consulting.{breaks_more}
@@ -44,3 +45,14 @@ returns-clause-whole g c =
     let input = whole o (told_input _ _ o told) in
     let advanced = advanced_both _ o _ _ _ _ _ (e.whole o (told_files _ _ o told)) _ _ _ input.advanced in
     record { database = input.database; advanced = rw (budgets, c.requires.new, ← files) at advanced; size = input.size; read = input.read })
+
+pub returns-clause-cause : goal.returns-clause-cause
+returns-clause-cause g c =
+    let same = c.in_ok-before.ensures.cause (g.I.Source.faults c.args.input.now) (g.I.Source.taken c.args.input.now) in
+    let behind = c.in_ok-behind.ensures.cause (g.F.Shelf.faults c.write_files.new.shelf) (g.F.Shelf.refused c.write_files.new.shelf) in
+    record {
+      loads = ap (λ k. k.shelf_faults) same;
+      refusals = ap (λ k. k.shelf_refused) same;
+      reads = behind.reads;
+      writes = behind.writes ∙ ap (λ k. k.out_faults) same;
+    }
