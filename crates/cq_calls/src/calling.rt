@@ -1,6 +1,6 @@
 // How a call of a user predicate begins.
 
-ghost use Rattle.std.specs.Prelude.{◌≡◌, ◌<◌, [], ◌∷◌, List, length, Ok, IfOk, IfSome, IfNone, OnOk, OnErr};
+ghost use Rattle.std.specs.Prelude.{◌≡◌, ◌<◌, [], ◌∷◌, List, length, false, Ok, IfOk, IfSome, IfNone, OnOk, OnErr};
 ghost use Rattle.spec_numbers.specs.Texts.{Text};
 ghost use Rattle.spec_syntax.specs.Trees.{Tree};
 ghost use Rattle.spec_branch.specs.Branch.{Branch};
@@ -129,7 +129,11 @@ fn call_clauses(
     if left.is_empty() {
         begin_only(world, choices, atoms, clauses, number, goal, walk, rest)
     } else {
-        begin_first(world, choices, atoms, clauses, goal, walk, rest)
+        let first = Next {
+            number,
+            behind: left,
+        };
+        begin_first(world, choices, atoms, clauses, goal, walk, first, rest)
     }
 }
 
@@ -142,6 +146,7 @@ fn begin_first(
     clauses: &Clauses<ProgramClause>,
     goal: TermId,
     walk: &Walk,
+    first: Next,
     rest: Continuation,
 ) -> Result<Option<Continuation>, AllocError>
     requires ready { IsReady atoms.now (now_of world.old.first) }
@@ -149,6 +154,9 @@ fn begin_first(
     requires program { IsProgram atoms.now clauses.now }
     requires goal { goal < length world.old.first.heap.now.terms }
     requires walk { IsWalk walk.now clauses.now }
+    requires behind { IsWalk first.behind clauses.now }
+    requires known { first.number < length clauses.now.contents }
+    requires next { LeavesFirst clauses.now walk.now first.number first.behind }
     requires rest { rest < length world.old.second.now }
     requires marked { AreMarked (saved_values world.old.first world.old.second.saved) choices.old }
     ensures comes { IfOk result (WalkComes atoms.now clauses.now (saved_values world.old.first world.old.second.saved) choices.old
@@ -163,31 +171,30 @@ fn begin_first(
     ensures err { OnErr result (IsStill world.old.first world.new.first world.old.second world.new.second choices.old choices.new) }
 {
     let mut front = *walk;
-    let Some(first) = next_clause(&world.first.heap, clauses, goal, &mut front) else {
+    let Some(next) = next_clause(&world.first.heap, clauses, goal, first, &mut front) else {
         return Ok(None);
     };
-    let mut others = first.behind;
-    if next_clause(&world.first.heap, clauses, goal, &mut others).is_none() {
-        begin_only(
-            world,
-            choices,
-            atoms,
-            clauses,
-            first.number,
-            goal,
-            &front,
-            rest,
-        )
-    } else {
+    if may_follow(&world.first.heap, clauses, goal, next.behind) {
         begin_several(
             world,
             choices,
             atoms,
             clauses,
-            first.number,
+            next.number,
             goal,
             &front,
-            first.behind,
+            next.behind,
+            rest,
+        )
+    } else {
+        begin_only(
+            world,
+            choices,
+            atoms,
+            clauses,
+            next.number,
+            goal,
+            &front,
             rest,
         )
     }
@@ -200,15 +207,20 @@ struct Next {
     behind: Walk,
 }
 
-/// Passes over clauses of a walk that can't match the goal. The walk is left in front of the first that may. None where none may.
+/// Passes over clauses of a walk that can't match the goal, beginning with its first. The walk is left in front of the first that may.
+/// None where none may.
 fn next_clause(
     heap: &Heap,
     clauses: &Clauses<ProgramClause>,
     goal: TermId,
+    first: Next,
     walk: &mut Walk,
 ) -> Option<Next>
     requires goal { goal < length heap.now.now.terms }
     requires walk { IsWalk walk.old clauses.now }
+    requires behind { IsWalk first.behind clauses.now }
+    requires known { first.number < length clauses.now.contents }
+    requires next { LeavesFirst clauses.now walk.old first.number first.behind }
     ensures passed { Narrows clauses.now (at heap.now.now.terms goal) (numbers_left clauses.now walk.old) (numbers_left clauses.now walk.new) }
     ensures none { IfNone result (numbers_left clauses.now walk.new ≡ []) }
     ensures some { IfSome result (λ r. LeavesFirst clauses.now walk.new r.number r.behind) }
@@ -216,15 +228,34 @@ fn next_clause(
     ensures opened { IsWalk walk.new clauses.now }
     ensures behind { IfSome result (λ r. IsWalk r.behind clauses.now) }
 {
-    let mut behind = *walk;
+    let mut number = first.number;
+    let mut behind = first.behind;
     'clauses: loop {
-        let Some(number) = clauses.step(&mut behind) else {
-            return None;
-        };
         if may_match(heap, clauses.content(number).clause(), goal) {
             return Some(Next { number, behind });
         }
         *walk = behind;
+        let Some(later) = clauses.step(&mut behind) else {
+            return None;
+        };
+        number = later;
+    }
+}
+
+/// Whether one of a walk's clauses may match the goal.
+fn may_follow(heap: &Heap, clauses: &Clauses<ProgramClause>, goal: TermId, walk: Walk) -> bool
+    requires goal { goal < length heap.now.now.terms }
+    requires walk { IsWalk walk clauses.now }
+    ensures { result ≡ false → Narrows clauses.now (at heap.now.now.terms goal) (numbers_left clauses.now walk) [] }
+{
+    let mut left = walk;
+    'clauses: loop {
+        let Some(number) = clauses.step(&mut left) else {
+            return false;
+        };
+        if may_match(heap, clauses.content(number).clause(), goal) {
+            return true;
+        }
     }
 }
 

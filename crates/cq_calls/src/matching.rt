@@ -11,11 +11,11 @@ ghost use Rattle.cq_resolve.specs.Pattern.{IsPattern, term_of};
 ghost use Rattle.cq_calls.specs.Matching.{AreApart, AreArguments, ArgumentsBegin};
 
 use cq_resolve::stored::{Clause, Part};
-use cq_term::{Heap, TermId, View};
+use cq_term::{Atom, Heap, TermId, View};
 
 /// Whether the goal may be made equal to the clause's head. It isn't where the two show different heads as an argument, neither of a
-/// variable, or where the head has one variable as two arguments that show different heads in the goal. Each argument is asked, and no
-/// term is walked.
+/// variable, or where the head has one variable as two arguments that show different heads in the goal. Each argument is asked but the
+/// first, for which a walk has a key, and no term is walked.
 pub(crate) fn may_match(heap: &Heap, clause: &Clause, goal: TermId) -> bool
     requires { goal < length heap.now.now.terms }
     ensures { result ≡ false → AreApart (at heap.now.now.terms goal) clause.now.head }
@@ -35,7 +35,7 @@ fn arguments_may_match(heap: &Heap, goals: &[TermId], head: &[Part]) -> bool
         if place >= head.len() {
             return true;
         }
-        if is_apart(heap, goals, head, i, place) {
+        if i > 0 && is_apart(heap, goals, head, i, place) {
             return false;
         }
         place += size(&head[place]);
@@ -44,6 +44,7 @@ fn arguments_may_match(heap: &Heap, goals: &[TermId], head: &[Part]) -> bool
 }
 
 /// Whether the goal's argument of a number can't be the head's, which begins at this place.
+#[inline(always)]
 fn is_apart(heap: &Heap, goals: &[TermId], head: &[Part], i: usize, place: usize) -> bool
     requires pattern { (count : ℕ) × IsPattern count (map shown head.now) }
     requires marks { AreMarked head.now }
@@ -56,6 +57,10 @@ fn is_apart(heap: &Heap, goals: &[TermId], head: &[Part], i: usize, place: usize
     match &head[place] {
         Part::New(_) => false,
         Part::Again(variable) => was_other(heap, goals, head, i, *variable),
+        Part::Name(name) => is_other_name(heap.view(goals[i]), *name),
+        Part::Compound { arity, name, .. } => {
+            is_other_compound(heap.view(goals[i]), *name, *arity as usize)
+        }
         part => differ(heap.view(goals[i]), part.view()),
     }
 }
@@ -80,6 +85,30 @@ fn was_other(heap: &Heap, goals: &[TermId], head: &[Part], i: usize, variable: u
         place += size(&head[place]);
     }
     false
+}
+
+/// Whether the head is of no variable and isn't this name.
+#[inline(always)]
+fn is_other_name(shown: View, name: Atom) -> bool
+    ensures { result ≡ true → IsRigid shown × (shown ≢ view.Name name) }
+{
+    match shown {
+        View::Var(_) => false,
+        View::Name(other) => other != name,
+        View::Number(_) | View::Compound(_, _) => true,
+    }
+}
+
+/// Whether the head is of no variable and of no compound with this name and so many arguments.
+#[inline(always)]
+fn is_other_compound(shown: View, name: Atom, arity: usize) -> bool
+    ensures { result ≡ true → IsRigid shown × (shown ≢ view.Compound name arity) }
+{
+    match shown {
+        View::Var(_) => false,
+        View::Compound(other, count) => other != name || count != arity,
+        View::Number(_) | View::Name(_) => true,
+    }
 }
 
 /// Whether two heads differ and neither is of a variable.
@@ -117,6 +146,7 @@ fn is_variable(part: &Part, variable: usize) -> bool
 }
 
 /// How many parts the term has that begins with this one.
+#[inline(always)]
 fn size(part: &Part) -> usize
     ensures { result ≡ size_of part.now }
 {

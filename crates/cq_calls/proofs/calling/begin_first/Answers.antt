@@ -1,9 +1,7 @@
-use Rattle.std.proofs.Common.{Option, None, Some}
-use Rattle.std.specs.Prelude.{IfNone, ◌≡◌}
+use Rattle.std.proofs.Common.{None, [], refl}
 use Rattle.cq_term.specs.Meaning.{at}
 use Rattle.cq_branch.specs.Worlds.{saved_values, value}
 use Rattle.cq_calls.specs.Calling.{numbers_left}
-use Rattle.cq_calls.proofs.CalledClauses.{none_known}
 use Rattle.cq_calls.proofs.Narrowing.{come_of, all_come_of, first_alone}
 use Rattle.cq_calls.proofs.Waiting.{none_comes}
 use Rattle.cq_calls.proofs.calling.begin_first.Goals as goal
@@ -18,27 +16,22 @@ returns-in_default-clause-comes c =
     come_of texts v saved c.args.choices.now now c.args.goal c.args.walk.now c.next_clause.new.walk c.args.rest saved c.args.choices.now now None c.in_default.ensures.passed
     (none_comes texts v saved c.args.choices.now now c.args.goal c.args.rest c.next_clause.new.walk c.in_default.ensures.none)
 
-if_none : {A : Type 0} (o : Option A) (P : Type 0) → IfNone o P → o ≡ None → P
-if_none None P h e = h
-if_none (Some x) P h e = cc
-
 -- none behind the first may
 pub begin_only-requires-clause-only : goal.begin_only-requires-clause-only
 begin_only-requires-clause-only c =
     let v = c.args.clauses.now in
-    let none = none_known c.next_clause-2.result c.is_none.result c.is_none.ensures c.if-is_none.true in
-    first_alone v (at c.args.world.now.first.heap.now.terms c.args.goal) (numbers_left v c.next_clause.new.walk) (numbers_left v c.in-Some.first.behind) (numbers_left v c.next_clause-2.new.walk)
-    c.in-Some.first.number c.in-Some.ensures.some c.next_clause-2.ensures.passed (if_none c.next_clause-2.result _ c.next_clause-2.ensures.none none)
+    first_alone v (at c.args.world.now.first.heap.now.terms c.args.goal) (numbers_left v c.next_clause.new.walk) (numbers_left v c.in-Some.next.behind) [] c.in-Some.next.number
+    c.in-Some.ensures.some (c.may_follow.ensures c.if-may_follow.false) refl
 
-pub returns-then-is_none-clause-comes : goal.returns-then-is_none-clause-comes
-returns-then-is_none-clause-comes c =
+pub returns-else-may_follow-clause-comes : goal.returns-else-may_follow-clause-comes
+returns-else-may_follow-clause-comes c =
     all_come_of c.args.atoms.now c.args.clauses.now (saved_values c.args.world.now.first c.args.world.now.second.saved) c.args.choices.now
     (value c.args.world.now.first c.args.world.now.second.now) c.args.goal c.args.walk.now c.next_clause.new.walk c.args.rest
     (saved_values c.begin_only.new.world.first c.begin_only.new.world.second.saved) c.begin_only.new.choices
     (value c.begin_only.new.world.first c.begin_only.new.world.second.now) c.begin_only.result c.in-Some.ensures.passed c.begin_only.ensures.comes
 
-pub returns-else-is_none-clause-comes : goal.returns-else-is_none-clause-comes
-returns-else-is_none-clause-comes c =
+pub returns-then-may_follow-clause-comes : goal.returns-then-may_follow-clause-comes
+returns-then-may_follow-clause-comes c =
     all_come_of c.args.atoms.now c.args.clauses.now (saved_values c.args.world.now.first c.args.world.now.second.saved) c.args.choices.now
     (value c.args.world.now.first c.args.world.now.second.now) c.args.goal c.args.walk.now c.next_clause.new.walk c.args.rest
     (saved_values c.begin_several.new.world.first c.begin_several.new.world.second.saved) c.begin_several.new.choices
