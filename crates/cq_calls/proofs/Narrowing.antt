@@ -1,9 +1,9 @@
 -- Some of a call's clauses, without those whose head nothing makes equal to the goal.
-use Rattle.std.proofs.Common.{◌≡◌, ◌<◌, ℕ, Option, List, [], ◌∷◌, length, map, sym, subst}
-use Rattle.std.specs.Prelude.{All, slice_get, Some, IfOk}
+use Rattle.std.proofs.Common.{◌≡◌, ◌<◌, ℕ, Option, None, List, [], ◌∷◌, length, map, refl, sym, ap, ◌∙◌, subst}
+use Rattle.std.specs.Prelude.{All, slice_get, Some, IfOk, IfSome, IfNone}
 use Rattle.std.specs.declared.result.Result.{Result}
 use Rattle.std.specs.declared.result.Result.TheVariants.{Ok, Err}
-use Rattle.std.proofs.lemmas.Option.{get_or_from_slice_get}
+use Rattle.std.proofs.lemmas.Option.{get_or_from_slice_get, none-some, same_Some}
 use Rattle.spec_numbers.specs.Texts.{Text}
 use Rattle.spec_terms.specs.Term.{named}
 use Rattle.spec_syntax.specs.Trees.{Tree}
@@ -35,6 +35,16 @@ narrows_both (keeping a) (keeping b) = keeping (narrows_both a b)
 -- a clause that is passed over
 pub one_less : (v : Program) (goal : HeapTerm) (ns front behind : List ℕ) (n : ℕ) → Narrows v goal ns front → front ≡ n ∷ behind → IsApart v goal n → Narrows v goal ns behind
 one_less v goal ns front behind n passed first x = narrows_both passed (subst (λ ms. Narrows v goal ms behind) (sym first) (without x all))
+
+-- none is first
+pub none_first : (ns : List ℕ) → None ≡ slice_get ns 0 → ns ≡ []
+none_first [] e = refl
+none_first (n ∷ ns) e = absurd (none-some n e)
+
+-- a step leaves out the clause that was first
+pub first_stepped : (r : Option ℕ) (front behind : List ℕ) (n : ℕ) → IfNone r (front ≡ []) → IfSome r (λ m. front ≡ m ∷ behind) → slice_get front 0 ≡ Some n → front ≡ n ∷ behind
+first_stepped None front behind n none some first = absurd (none-some n (sym (ap (λ ms. slice_get ms 0) none) ∙ first))
+first_stepped (Some m) front behind n none some first = some ∙ ap (λ k. k ∷ behind) (same_Some m n (sym (ap (λ ms. slice_get ms 0) some) ∙ first))
 
 -- only the first is left
 pub first_alone : (v : Program) (goal : HeapTerm) (front behind others : List ℕ) (n : ℕ) → front ≡ n ∷ behind → Narrows v goal behind others → others ≡ [] → Narrows v goal front (n ∷ [])

@@ -250,12 +250,13 @@ fn may_follow(heap: &Heap, clauses: &Clauses<ProgramClause>, goal: TermId, walk:
 {
     let mut left = walk;
     'clauses: loop {
-        let Some(number) = clauses.step(&mut left) else {
+        let Some(number) = clauses.first(&left) else {
             return false;
         };
         if may_match(heap, clauses.content(number).clause(), goal) {
             return true;
         }
+        clauses.step(&mut left);
     }
 }
 

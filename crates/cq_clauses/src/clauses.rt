@@ -218,6 +218,16 @@ impl<C: Keyed + Drop> Clauses<C> {
         Walk { key, ahead }
     }
 
+    /// The clause that a walk leaves first, which is known ahead; None where it has none left.
+    pub fn first(&self, walk: &Walk) -> Option<ClauseNo>
+        requires { IsWalk walk.now self.now }
+        ensures first { result ≡ slice_get (left C.key_of walk.now self.now) 0 }
+        ensures known { IfSome result (λ n. n < length self.now.contents) }
+    {
+        let (clause, _) = walk.ahead?;
+        Some(clause)
+    }
+
     /// The next clause of a walk, which is then left without it; None where it has none left, and stays as it is.
     pub fn step(&self, walk: &mut Walk) -> Option<ClauseNo>
         requires { IsWalk walk.old self.now }
