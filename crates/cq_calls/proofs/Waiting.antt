@@ -1,8 +1,8 @@
 -- The clauses of a call, which would wait as one more choice.
-use Rattle.std.proofs.Common.{◌≡◌, ℕ, List, [], ◌∷◌, ◌++◌, length, map, Option, None, Some, refl, sym, ap, ◌∙◌, subst, arith}
+use Rattle.std.proofs.Common.{◌≡◌, ℕ, List, [], ◌∷◌, length, map, Option, None, Some, refl, sym, ap, ◌∙◌, subst, arith}
 use Rattle.std.specs.Prelude.{slice_get}
-use Rattle.std.specs.List.{AllByRecursion, zip}
-use Rattle.std.proofs.lemmas.List.{length-map, reverse-append}
+use Rattle.std.specs.List.{AllByRecursion}
+use Rattle.std.proofs.lemmas.List.{length-map}
 use Rattle.spec_numbers.specs.Texts.{Text}
 use Rattle.spec_search.specs.Database.{Database}
 use Rattle.spec_search.specs.Search.{Search}
@@ -34,11 +34,6 @@ use Rattle.cq_calls.specs.Calling.{WalkComes, WouldStand, numbers_left}
 use Rattle.cq_calls.specs.Matching.{Narrows, all}
 use Rattle.cq_calls.proofs.Left.{content_is, length-opened}
 use Rattle.cq_calls.proofs.Turns.{came_past, comes_without}
-
--- one more choice, over a mark of this world
-pub one_more_open : (saved : List (Value Contents)) (choices : List Alternatives) (now : Value Contents) (c : Alternatives)
-    → open_choices (saved ++ now ∷ []) (c ∷ choices) ≡ (now, c) ∷ open_choices saved choices
-one_more_open saved choices now c = ap (λ (vs : List (Value Contents)). zip vs (c ∷ choices)) (reverse-append saved (now ∷ []))
 
 -- the same world, and more continuations
 pub same_grown : (texts : List Text) (old later : Contents) (lists more : List (List Cell)) → later ≡ old → KeepsLists lists more → Grown texts (old, lists) (later, more)

@@ -6,7 +6,7 @@ ghost use Rattle.cq_term.specs.Meaning.{HeapTerm, at};
 ghost use Rattle.cq_term.specs.Shown.{arguments, view_of};
 ghost use Rattle.cq_term.specs.declared.view.View.TheVariants as view;
 ghost use Rattle.cq_resolve.specs.FirstArgument.{IsRigid};
-ghost use Rattle.cq_resolve.specs.Marks.{shown, size_of, AreMarked};
+ghost use Rattle.cq_resolve.specs.Marks.{shown, AreMarked};
 ghost use Rattle.cq_resolve.specs.Pattern.{IsPattern, term_of};
 ghost use Rattle.cq_calls.specs.Matching.{AreApart, AreArguments, ArgumentsBegin};
 
@@ -38,7 +38,7 @@ fn arguments_may_match(heap: &Heap, goals: &[TermId], head: &[Part]) -> bool
         if i > 0 && is_apart(heap, goals, head, i, place) {
             return false;
         }
-        place += size(&head[place]);
+        place += head[place].size();
     }
     true
 }
@@ -82,7 +82,7 @@ fn was_other(heap: &Heap, goals: &[TermId], head: &[Part], i: usize, variable: u
         if is_variable(&head[place], variable) && differ(heap.view(goals[j]), heap.view(goals[i])) {
             return true;
         }
-        place += size(&head[place]);
+        place += head[place].size();
     }
     false
 }
@@ -142,16 +142,5 @@ fn is_variable(part: &Part, variable: usize) -> bool
     match part {
         Part::New(other) | Part::Again(other) => *other == variable,
         _ => false,
-    }
-}
-
-/// How many parts the term has that begins with this one.
-#[inline(always)]
-fn size(part: &Part) -> usize
-    ensures { result ≡ size_of part.now }
-{
-    match part {
-        Part::Compound { size, .. } => *size as usize,
-        _ => 1,
     }
 }

@@ -57,7 +57,8 @@ impl Toplevel {
         requires idle { IsIdle self.old.engine }
         requires live { goal < length (terms self.old.engine.machine) }
         requires names { AreNumbered 0 names.items (length (images self.old)) }
-        ensures asking { OnOk result (IsAsking self.new (start (database_of self.old.engine.machine) (term_in self.old goal) (length (images self.old)))) }
+        ensures asking { OnOk result
+            (IsAsking self.new (start (database_of self.old.engine.machine) (term_in self.old goal) (length (images self.old)))) }
         ensures names { OnOk result (self.new.names.items ≡ names.items) }
         ensures program { program_of self.new ≡ program_of self.old }
         ensures budgets { budgets_of self.new ≡ budgets_of self.old }
@@ -73,7 +74,8 @@ impl Toplevel {
         requires whole { IsWhole self.old }
         requires idle { IsIdle self.old.engine }
         requires live { goal < length (terms self.old.engine.machine) }
-        ensures asking { OnOk result (IsAsking self.new (start (database_of self.old.engine.machine) (once (term_in self.old goal)) (length (images self.old)))) }
+        ensures asking { OnOk result
+            (IsAsking self.new (start (database_of self.old.engine.machine) (once (term_in self.old goal)) (length (images self.old)))) }
         ensures program { program_of self.new ≡ program_of self.old }
         ensures budgets { budgets_of self.new ≡ budgets_of self.old }
         ensures whole { IsWhole self.new }

@@ -5,7 +5,7 @@ use Rattle.spec_terms.specs.Term.{Occurs}
 use Rattle.cq_term.specs.declared.view.View.{View}
 use Rattle.cq_resolve.specs.Pattern.{heads, term_of, AreHeads, HaveBelow}
 use Rattle.cq_resolve.specs.Parts.{Parts}
-use Rattle.cq_resolve.proofs.Reading.{term_of-heads, below_term, below_part, have_below, heads_left}
+use Rattle.cq_resolve.proofs.Reading.{term_of-heads, below_part, have_below, heads_left}
 
 module _ (head : List View) (place end : ℕ) (p : Parts head place end) where
   long : length (heads (term_of (drop place head))) ≡ end - place
@@ -27,7 +27,3 @@ module _ (head : List View) (place end : ℕ) (p : Parts head place end) where
 
 pub part_below : (n : ℕ) (head : List View) (place end : ℕ) → AreHeads n head → Parts head place end → (v : ℕ) → Occurs v (term_of (drop place head)) → v < n
 part_below n head place end fit p = below_part n (term_of (drop place head)) (drop end head) (subst (HaveBelow n) p.term (have_below n (drop place head) (heads_left n place head fit)))
-
--- over the variables that stand in it
-pub part_known : (n : ℕ) (head : List View) (place end : ℕ) → Parts head place end → HaveBelow n (take (end - place) (drop place head)) → (v : ℕ) → Occurs v (term_of (drop place head)) → v < n
-part_known n head place end p h = below_term n (term_of (drop place head)) (subst (HaveBelow n) (part_is head place end p) h)

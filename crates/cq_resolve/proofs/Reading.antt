@@ -7,7 +7,7 @@ use Rattle.cq_term.specs.Meaning.{HeapTerm, at}
 use Rattle.cq_term.proofs.Arguments.{apply-with_arguments, with_arguments-list_of, length-list_of, count-terms_of}
 use Rattle.cq_term.specs.declared.view.View.{View}
 use Rattle.cq_term.specs.declared.view.View.TheVariants as view
-use Rattle.cq_resolve.specs.Pattern.{heads, heads_in, put, read, term_of, IsHead, AreHeads, IsBelow, HaveBelow, IsPattern}
+use Rattle.cq_resolve.specs.Pattern.{heads, heads_in, put, read, term_of, IsHead, AreHeads, HaveBelow, IsPattern}
 
 count_positive : (ts : Terms ℕ) → 0 < count ts
 count_positive (one t) = omega arith
@@ -136,12 +136,6 @@ below_part n t hs h = (below_heads n t hs h).0
 
 pub pattern_below : (n : ℕ) (hs : List View) → IsPattern n hs → (v : ℕ) → Occurs v (term_of hs) → v < n
 pattern_below n hs p = below_term n (term_of hs) (subst (HaveBelow n) (sym (pattern_heads n hs p)) (have_below n hs p.fits))
-
-is_below_more : (n m : ℕ) (h : View) → n ≤ m → IsBelow n h → IsBelow m h
-is_below_more n m (view.Var v) le b = omega arith
-is_below_more n m (view.Number q) le b = tt
-is_below_more n m (view.Name a) le b = tt
-is_below_more n m (view.Compound f k) le b = tt
 
 -- ---- what is left behind a place
 pub heads_left : (n k : ℕ) (hs : List View) → AreHeads n hs → AreHeads n (drop k hs)

@@ -76,7 +76,8 @@ fn answer<'a, P: Examined + Drop, F: Shelf, I: Source, O: Sink>(
     input: &mut I,
     out: &mut O,
 ) -> Ending<'a>
-    ensures shows { IfSome (outside (F.files shelf.old) (I.left input.old)) (λ o. Shows o (I.left input.new) (asked_by words.now) result (O.held out.old) (O.held out.new)) }
+    ensures shows { IfSome (outside (F.files shelf.old) (I.left input.old))
+        (λ o. Shows o (I.left input.new) (asked_by words.now) result (O.held out.old) (O.held out.new)) }
     ensures cause { Caused (status_of result) (asked_by words.now)
         (counted (F.faults shelf.old) (F.refused shelf.old) (I.faults input.old) (I.taken input.old) (O.faults out.old))
         (counted (F.faults shelf.new) (F.refused shelf.new) (I.faults input.new) (I.taken input.new) (O.faults out.new)) }
@@ -110,7 +111,8 @@ pub fn run<P: Examined + Drop, F: Shelf, I: Source, O: Sink, E: Sink>(
     err: &mut E,
 ) -> Status
     // Where files and input are told, one transcript of them shows the status, what was written to `out`, and the line on `err`.
-    ensures text { IfSome (outside (F.files shelf.old) (I.left input.old)) (λ o. Ended o (I.left input.new) (asked_by words.now) result (O.held out.old) (O.held out.new)
+    ensures text { IfSome (outside (F.files shelf.old) (I.left input.old))
+        (λ o. Ended o (I.left input.new) (asked_by words.now) result (O.held out.old) (O.held out.new)
         (sinks (E.held err.old) (E.held err.new) (E.faults err.old) (E.faults err.new))) }
 
     // What the status says of the words and of the counts, whatever is told.

@@ -30,7 +30,8 @@ impl<T: Undo> Counted<T> {
         ensures put { OnOk result (T.saved self.new.inner ≡ counted (T.saved self.old.inner) self.old.marks (T.now self.old.inner)) }
         ensures now { T.now self.new.inner ≡ T.now self.old.inner }
         ensures marks { self.new.marks ≡ self.old.marks }
-        ensures saved { counted (T.saved self.new.inner) self.new.marks (T.now self.new.inner) ≡ counted (T.saved self.old.inner) self.old.marks (T.now self.old.inner) }
+        ensures saved { counted (T.saved self.new.inner) self.new.marks (T.now self.new.inner)
+            ≡ counted (T.saved self.old.inner) self.old.marks (T.now self.old.inner) }
         ensures all { OnOk result (self.new.marks ≤ length (T.saved self.new.inner)) }
     {
         while self.own < self.marks {
@@ -44,11 +45,13 @@ impl<T: Undo> Counted<T> {
     /// mark as it was.
     pub fn begin(&mut self) -> Result<Mark, AllocError>
         ensures mark { IfOk result (λ m. m.number ≡ length (counted (T.saved self.old.inner) self.old.marks (T.now self.old.inner))) }
-        ensures put { OnOk result (T.saved self.new.inner ≡ counted (T.saved self.old.inner) self.old.marks (T.now self.old.inner) ++ T.now self.old.inner ∷ []) }
+        ensures put { OnOk result (T.saved self.new.inner
+            ≡ counted (T.saved self.old.inner) self.old.marks (T.now self.old.inner) ++ T.now self.old.inner ∷ []) }
         ensures all { OnOk result (self.new.marks ≤ length (T.saved self.new.inner)) }
         ensures now { T.now self.new.inner ≡ T.now self.old.inner }
         ensures room { countable self.old.marks ≤ countable self.new.marks + 1 }
-        ensures err { OnErr result (counted (T.saved self.new.inner) self.new.marks (T.now self.new.inner) ≡ counted (T.saved self.old.inner) self.old.marks (T.now self.old.inner)) }
+        ensures err { OnErr result (counted (T.saved self.new.inner) self.new.marks (T.now self.new.inner)
+            ≡ counted (T.saved self.old.inner) self.old.marks (T.now self.old.inner)) }
         ensures err_room { OnErr result (countable self.old.marks ≤ countable self.new.marks) }
     {
         let m = self.mark()?;

@@ -1,7 +1,7 @@
 // A list that goes back to what it was at a mark, by a log of the values that were replaced since.
 
 ghost use Rattle.cq_trail.specs.Log.{restore, old_values, old_stamps, NeedsNoSaving, NeedsSaving};
-ghost use Rattle.cq_trail.specs.TrailValue.{newest, SavesOnce};
+ghost use Rattle.cq_trail.specs.TrailValue.{SavesOnce};
 ghost use Rattle.cq_trail.specs.declared.trail.Entry.{Entry};
 ghost use Rattle.std.specs.Prelude.{◌≡◌, ◌+◌, ◌-◌, ◌<◌, ◌≤◌, ◌↔◌, drop, ◌++◌, [], ◌∷◌, List, ℕ, length, take, slice_get, slice_set, slice_index, slice_index_or, map, Some, IsTrue, IsOk, IfOk, OnOk, OnErr};
 ghost use Rattle.std.specs.Bool.{OnTrue, OnFalse};
@@ -161,16 +161,6 @@ impl<T: Drop> Trail<T> {
         let stamp = mem::replace(&mut self.stamps[at], self.log.len() + 1);
         self.log.push(Entry { at, old, stamp }).unwrap();
         Ok(())
-    }
-
-    /// How many values were put aside since the newest live mark.
-    pub fn saved(&self) -> usize
-        ensures { result ≡ length (newest self.now.changed) }
-    {
-        match self.marks.last() {
-            Some(mark) => self.log.len() - mark.log,
-            None => 0,
-        }
     }
 }
 

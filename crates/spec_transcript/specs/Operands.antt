@@ -37,15 +37,17 @@ product_operands f p g (Some q) = on Product f g ∷ []
 product_operands f (Some p) g None = on Product f g ∷ []
 product_operands f None g None = []
 
+-- where both sides are linear
 abbrev pub of_products : Option Linear → Option Linear → List Operands
 of_products (Some f) (Some g) = product_operands f (number_of f) g (number_of g)
 of_products f g = []
 
--- the operands of a quotient, whose right side is a number that isn't zero: else it waits
+-- the operands of a quotient, whose right side is a number: where it isn't one, the quotient waits, and by zero it has no value
 abbrev pub quotient_operands : Linear → Linear → Option ℚ → List Operands
 quotient_operands f g None = []
 quotient_operands f g (Some q) = if is_zero q then [] else on Quotient f g ∷ []
 
+-- where both sides are linear
 abbrev pub of_quotients : Option Linear → Option Linear → List Operands
 of_quotients (Some f) (Some g) = quotient_operands f g (number_of g)
 of_quotients f g = []

@@ -71,7 +71,8 @@ impl Part {
     }
 
     /// How many parts the term has that begins with this one.
-    pub(crate) fn size(&self) -> usize
+    #[inline(always)]
+    pub fn size(&self) -> usize
         ensures { result ≡ size_of self.now }
     {
         match self {
