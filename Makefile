@@ -1,15 +1,16 @@
-# Installs clpq, and makes a Debian package of it. The program is the one that .ci/run has proved and built.
+# Installs clpq and clpq-lint, and makes a Debian package of them. The programs are those that .ci/run has proved and built.
 #
 #   make install [PREFIX=/usr/local] [DESTDIR=]
 #   make uninstall [PREFIX=/usr/local] [DESTDIR=]
 #   make deb                                       out/clpq_VERSION_ARCHITECTURE.deb
 #
-# PROGRAM=PATH takes another build. No licence is chosen yet, so the package has no copyright file and must not be passed on as free
+# PROGRAM=PATH and LINT=PATH take other builds. No licence is chosen yet, so the package has no copyright file and must not be passed on as free
 # software.
 
 PREFIX = /usr/local
 DESTDIR =
 PROGRAM = crates/clpq/out/clpq
+LINT = crates/lint/out/lint
 
 to = $(DESTDIR)$(PREFIX)
 doc = $(to)/share/doc/clpq
@@ -19,12 +20,14 @@ pages = REFERENCE.md GUIDE.md FROM-SWI.md PYTHON.md SCALE.md
 
 .PHONY: install uninstall deb
 
-$(PROGRAM):
-	@echo "$(PROGRAM) does not stand here: .ci/run proves and builds it" >&2; exit 1
+$(PROGRAM) $(LINT):
+	@echo "$@ does not stand here: .ci/run proves and builds it" >&2; exit 1
 
-install: $(PROGRAM)
+install: $(PROGRAM) $(LINT)
 	install -D -m 755 $(PROGRAM) $(to)/bin/clpq
+	install -D -m 755 $(LINT) $(to)/bin/clpq-lint
 	install -D -m 644 docs/clpq.1 $(to)/share/man/man1/clpq.1
+	install -D -m 644 docs/clpq-lint.1 $(to)/share/man/man1/clpq-lint.1
 	install -d $(to)/share/clpq/lib $(doc)/docs $(doc)/examples
 	install -m 644 lib/*.pl $(to)/share/clpq/lib
 	install -m 644 README.md CHANGELOG.md $(doc)
@@ -36,17 +39,19 @@ install: $(PROGRAM)
 	install -m 644 python/clpq/*.py python/clpq/py.typed $(site)
 	install -D -m 644 editors/clpq.vim $(to)/share/vim/vimfiles/syntax/clpq.vim
 	install -D -m 644 editors/clpq.bash $(to)/share/bash-completion/completions/clpq
+	ln -sfn clpq $(to)/share/bash-completion/completions/clpq-lint
 
 uninstall:
-	rm -f $(to)/bin/clpq $(to)/share/man/man1/clpq.1 $(to)/share/vim/vimfiles/syntax/clpq.vim $(to)/share/bash-completion/completions/clpq
+	rm -f $(to)/bin/clpq $(to)/bin/clpq-lint $(to)/share/man/man1/clpq.1 $(to)/share/man/man1/clpq-lint.1 $(to)/share/vim/vimfiles/syntax/clpq.vim
+	rm -f $(to)/share/bash-completion/completions/clpq $(to)/share/bash-completion/completions/clpq-lint
 	rm -rf $(to)/share/clpq $(doc) $(site)
 
 date = $(shell git log -1 --format=%cd --date=format:%Y%m%d)
 version = 0~$(date).$(shell git log -1 --format=%h --abbrev=8)-1
 architecture = $(shell dpkg --print-architecture)
 maintainer = $(shell git log -1 --format='%an <%ae>')
-# the newest version of the C library that the program names
-libc = $(shell objdump -T $(PROGRAM) | grep -o 'GLIBC_[0-9.]*' | sort -Vu | tail -n 1 | cut -d_ -f2)
+# the newest version of the C library that the programs name
+libc = $(shell objdump -T $(PROGRAM) $(LINT) | grep -o 'GLIBC_[0-9.]*' | sort -Vu | tail -n 1 | cut -d_ -f2)
 tree = out/deb
 package = out/clpq_$(version)_$(architecture).deb
 
@@ -66,7 +71,8 @@ Description: Prolog with exact rational linear constraints
  forwards, backwards and with unknowns. Every number is exact, and the program
  is proved to write what its definitions say.
  .
- The package has the program, its manual page, a guide, a reference, worked
+ The package has the program, clpq-lint, which finds mistakes in programs
+ without running them, their manual pages, a guide, a reference, worked
  examples, a library of common predicates in /usr/share/clpq/lib, and a
  module for Python.
 endef
@@ -82,11 +88,11 @@ endef
 
 deb: export CONTROL = $(control)
 deb: export CHANGES = $(changes)
-deb: $(PROGRAM)
+deb: $(PROGRAM) $(LINT)
 	rm -rf $(tree)
 	$(MAKE) --no-print-directory install DESTDIR=$(tree) PREFIX=/usr
-	strip --strip-unneeded $(tree)/usr/bin/clpq
-	gzip -9n $(tree)/usr/share/man/man1/clpq.1
+	strip --strip-unneeded $(tree)/usr/bin/clpq $(tree)/usr/bin/clpq-lint
+	gzip -9n $(tree)/usr/share/man/man1/clpq.1 $(tree)/usr/share/man/man1/clpq-lint.1
 	echo "$$CHANGES" | gzip -9n > $(tree)/usr/share/doc/clpq/changelog.Debian.gz
 	install -d $(tree)/DEBIAN
 	echo "$$CONTROL" | sed "s/@SIZE@/$$(du -sk $(tree)/usr | cut -f1)/" > $(tree)/DEBIAN/control

@@ -1,4 +1,4 @@
-# bash completion for clpq(1): commands, options and files
+# bash completion for clpq(1), commands, options and files, and clpq-lint(1), files
 _clpq() {
     local word=${COMP_WORDS[COMP_CWORD]} before=${COMP_WORDS[COMP_CWORD-1]} it files=
     COMPREPLY=()
@@ -25,3 +25,11 @@ _clpq() {
     return 0
 }
 complete -F _clpq clpq
+
+_clpq_lint() {
+    local word=${COMP_WORDS[COMP_CWORD]}
+    mapfile -t COMPREPLY < <(compgen -d -S / -- "$word"; compgen -f -X '!*.pl' -- "$word")
+    compopt -o filenames -o nospace 2> /dev/null
+    return 0
+}
+complete -F _clpq_lint clpq-lint

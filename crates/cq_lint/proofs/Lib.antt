@@ -1,0 +1,9 @@
+pub mod Lists
+pub mod Found
+pub mod Columns
+pub mod Shown
+pub mod Heads
+pub mod Taken
+pub mod Ends
+pub mod MoreNames
+pub mod Standing

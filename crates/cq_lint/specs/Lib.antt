@@ -1,0 +1,11 @@
+pub mod Predicates
+pub mod Goals
+pub mod Shapes
+pub mod Clauses
+pub mod ClauseParts
+pub mod Named
+pub mod Variables
+pub mod Sentences
+pub mod Knowledge
+pub mod Findings
+pub mod Lines

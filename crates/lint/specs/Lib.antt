@@ -1,0 +1,4 @@
+pub mod Language
+pub mod Pages
+pub mod Endings
+pub mod Causes
